@@ -1,0 +1,5 @@
+pub mod Rounding
+pub mod Shares
+pub mod Panels
+pub mod Halves
+pub mod Digits

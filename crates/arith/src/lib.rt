@@ -1,0 +1,42 @@
+// Product-and-divide: a * b / d in whole cents, after the whole product has been formed.
+ghost use mathlib.Core.Path.{_≡_};
+ghost use Prim.Native.Nat.{_+_, _*_};
+ghost use Rattle.arith.specs.Round.{rounded};
+ghost use Rattle.arith.specs.Ranges.{Wide, Narrow};
+ghost use Rattle.arith.specs.LongDivision.{Rest};
+
+pub mod long_division;
+pub mod words;
+
+use long_division::Division;
+
+// A quotient with its rest, in whole cents: the one place that rounds.
+pub fn settle(n: Division, d: u64) -> u64
+    requires { ⌜ Rest d n ⌝ }
+    ensures { λ r. ⌜ r ≡ rounded (n .quotient * d + n .rest) d ⌝ }
+{
+    n.quotient
+}
+
+// a * b / d where the product may pass 64 bits.
+pub fn mul_div(a: u64, b: u64, d: u64) -> u64
+    requires { ⌜ Wide a b d ⌝ }
+    ensures { λ r. ⌜ r ≡ rounded (a * b) d ⌝ }
+{
+    settle(long_division::divide_product(a, b, d), d)
+}
+
+// a * b / d where the product fits a word.
+pub fn mul_div_word(a: u64, b: u64, d: u64) -> u64
+    requires { ⌜ Narrow a b d ⌝ }
+    ensures { λ r. ⌜ r ≡ rounded (a * b) d ⌝ }
+{
+    let n = a * b;
+    settle(
+        Division {
+            quotient: n / d,
+            rest: n % d,
+        },
+        d,
+    )
+}

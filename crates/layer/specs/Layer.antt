@@ -1,0 +1,94 @@
+-- Document 01, Layers: a layer's figures from its terms t and its spent amount m, and its record through one loss.
+-- Assumes nothing.
+use mathlib.Core.List.{List, [], _∷_}
+use Prim.Native.Nat.{ℕ, _+_, _-_, _*_, min, max}
+use Rattle.arith.specs.Round.{rounded}
+use Rattle.layer.specs.declared.terms.Terms.{Terms}
+use Rattle.layer.specs.declared.record.Layer.{Layer}
+use Rattle.layer.specs.declared.record.Sums.{Sums}
+use Rattle.layer.specs.declared.record.Borne.{Borne}
+
+-- the loss that a subject amount x brings: x − a, not below 0 and not above l
+abbrev pub broughtBy : Terms → ℕ → ℕ
+broughtBy t x = min (t .limit) (x - t .attachment)
+
+-- the cap: d + l × (k + 1)
+abbrev pub capOf : Terms → ℕ
+capOf t = t .deductible + t .limit * (t .reinstatements + 1)
+
+-- the spent amount: a sum of losses, cut off at the cap
+abbrev pub cutAtCap : Terms → ℕ → ℕ
+cutAtCap t n = min (capOf t) n
+
+-- deductible left: d − m, not below 0
+abbrev pub deductibleLeftOf : Terms → ℕ → ℕ
+deductibleLeftOf t m = t .deductible - m
+
+-- cover left: cap − the larger of m and d
+abbrev pub coverLeftOf : Terms → ℕ → ℕ
+coverLeftOf t m = capOf t - max m (t .deductible)
+
+-- used: m − d, not below 0
+abbrev pub usedOf : Terms → ℕ → ℕ
+usedOf t m = m - t .deductible
+
+-- an amount at 100% of the layer, at its placed share: × s / 10,000
+unfoldable pub placedOf : Terms → ℕ → ℕ
+placedOf t a = rounded (a * t .share) 10000
+
+-- recovered: used × s / 10,000
+unfoldable pub recoveredOf : Terms → ℕ → ℕ
+recoveredOf t m = placedOf t (usedOf t m)
+
+-- what is reinstated: the smaller of used and k × l
+abbrev pub reinstatedOf : Terms → ℕ → ℕ
+reinstatedOf t m = min (usedOf t m) (t .reinstatements * t .limit)
+
+-- reinstatement premium: B × q × p / (10,000 × l), where B is what is reinstated, at the placed share
+unfoldable pub premiumOf : Terms → ℕ → ℕ
+premiumOf t m = rounded (placedOf t (reinstatedOf t m) * t .rate * t .premium) (10000 * t .limit)
+
+-- the record of terms t and spent amount m
+abbrev pub layerOf : Terms → ℕ → Layer
+layerOf t m = record { terms = t; spent = record { 0 = m } }
+
+-- the record after a loss
+abbrev pub layerAfter : ℕ → Layer → Layer
+layerAfter loss y = layerOf (y .terms) (cutAtCap (y .terms) (y .spent .0 + loss))
+
+-- that loss's recovery: the year's figure after it less the figure before it
+unfoldable pub recoveryOf : ℕ → Layer → ℕ
+recoveryOf loss y = recoveredOf (y .terms) (layerAfter loss y .spent .0) - recoveredOf (y .terms) (y .spent .0)
+
+-- and its premium, likewise
+unfoldable pub chargeOf : ℕ → Layer → ℕ
+chargeOf loss y = premiumOf (y .terms) (layerAfter loss y .spent .0) - premiumOf (y .terms) (y .spent .0)
+
+-- recoveries and premiums, added
+abbrev pub sumsOf : ℕ → ℕ → Sums
+sumsOf recovered premium = record { recovered = record { 0 = recovered }; premium = record { 0 = premium } }
+
+-- the record after a loss, and the sums with its recovery and its premium
+abbrev pub borneOf : ℕ → Sums → Layer → Borne
+borneOf loss s y = record {
+  layer = layerAfter loss y;
+  sums = sumsOf (s .recovered .0 + recoveryOf loss y) (s .premium .0 + chargeOf loss y);
+}
+
+-- the recoveries of losses, in turn
+abbrev pub recoveriesOf : Layer → List ℕ → List ℕ
+recoveriesOf y [] = []
+recoveriesOf y (loss ∷ losses) = recoveryOf loss y ∷ recoveriesOf (layerAfter loss y) losses
+
+-- the same for the loss that a subject amount x brings
+abbrev pub afterSubject : ℕ → Layer → Layer
+afterSubject x y = layerAfter (broughtBy (y .terms) x) y
+
+abbrev pub recoveryBy : ℕ → Layer → ℕ
+recoveryBy x y = recoveryOf (broughtBy (y .terms) x) y
+
+abbrev pub chargeBy : ℕ → Layer → ℕ
+chargeBy x y = chargeOf (broughtBy (y .terms) x) y
+
+abbrev pub borneBy : ℕ → Sums → Layer → Borne
+borneBy x s y = borneOf (broughtBy (y .terms) x) s y

@@ -1,0 +1,41 @@
+// The layers of one tier: each looks at the same subject amount, and none sees another's remainder.
+ghost use mathlib.Core.Path.{_≡_};
+ghost use Rattle.layer.specs.Tier.{tierBorne};
+ghost use Rattle.layer.specs.Ranges.{SoundTier};
+use crate::amount::Placed;
+use crate::record::Layer;
+use crate::record::Sums;
+
+// At most eight layers, in the first places; the places past the count are unused.
+pub struct Tier {
+    pub layers: [Layer; 8],
+    pub count: usize,
+}
+
+// The tier after a subject amount, and its layers' recoveries and premiums, added.
+pub struct TierBorne {
+    pub tier: Tier,
+    pub sums: Sums,
+}
+
+impl Tier {
+    pub fn bear(self, subject: u64) -> TierBorne
+        requires { ⌜ SoundTier self ⌝ }
+        ensures { λ r. ⌜ r ≡ tierBorne subject self ⌝ }
+    {
+        let mut tier = self;
+        let count = self.count;
+        let mut sums = Sums {
+            recovered: Placed::none(),
+            premium: Placed::none(),
+        };
+        for i in 0..count {
+            let layer = tier.layers[i];
+            let borne = layer.bear(subject, sums);
+            let after = borne.layer;
+            tier.layers[i] = after;
+            sums = borne.sums;
+        }
+        TierBorne { tier, sums }
+    }
+}

@@ -1,0 +1,21 @@
+-- A treaty's products stay within the ranges of product-and-divide.
+-- Assumes nothing.
+use Prim.Native.Nat.{ℕ, _+_, _*_, _^_, _≤_, _<_}
+use native.Mathlib.Nat.{le-of-lt, mul-le-mul}
+use native.Mathlib.Omega.{arith}
+use mir.Syntax.{w64}
+use mir.Val.{Fits}
+use Rattle.arith.specs.Ranges.{Wide}
+use Rattle.treaty.specs.declared.Treaty.{Treaty}
+use Rattle.treaty.specs.Ranges.{TermsInRange, PartInRange}
+
+module _ (t : Treaty) (e c : ℕ) (p : PartInRange t e c) where
+  pub quota-product : Fits w64 (t .cede * t .capacity)
+  quota-product = omega (arith, mul-le-mul (p .terms .cede) (p .terms .capacity))
+
+  pub quota-wide : t .capacity < e → Wide c (t .cede * t .capacity) (10000 * e)
+  quota-wide h = omega (arith, mul-le-mul (p .terms .cede) (le-of-lt h))
+
+  pub surplus-product : Fits w64 (t .retention * (1 + t .lines))
+  surplus-product =
+      omega (arith, mul-le-mul {m₁ = 1 + t .lines} {n₂ = 10 ^ 13} {m₂ = 101} (p .terms .retention) (omega arith))

@@ -1,0 +1,25 @@
+-- `treaty::Treaty::covered` meets its contract.
+-- Assumes nothing.
+use borrow.Author.Needs.{needs}
+use native.Mathlib.Omega.{arith}
+use Rattle.treaty.proofs.Cases.{unlimited, used-up, within-limit, above-limit}
+use Rattle.treaty.proofs.Treaty.covered.Statement.{statement}
+use Rattle.treaty.proofs.Treaty.covered.Tie as tie
+
+returns : tie.Need-returns
+returns c = search unlimited
+
+returns-2 : tie.Need-returns-2
+returns-2 c = search used-up
+
+sub-room : tie.Need-sub-room
+sub-room c = search needs
+
+returns-3 : tie.Need-returns-3
+returns-3 c = search within-limit
+
+returns-4 : tie.Need-returns-4
+returns-4 c = search above-limit
+
+pub covered-spec : {M : Type 1} → statement M
+covered-spec = tie.close (tie.spec returns returns-2 sub-room returns-3 returns-4)

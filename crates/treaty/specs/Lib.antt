@@ -1,0 +1,2 @@
+pub mod Treaty
+pub mod Ranges

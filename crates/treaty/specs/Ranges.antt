@@ -1,0 +1,33 @@
+-- Document 01, The table text, and Events and statement: the numbers that a treaty and a loss may hold.
+-- Assumes nothing.
+use Prim.Native.Nat.{ℕ, _^_, _≤_, _<_}
+use Rattle.treaty.specs.declared.Treaty.{Treaty}
+use Rattle.treaty.specs.declared.Loss.{Loss}
+
+-- a treaty's terms; those of the other kind are 0
+pub record TermsInRange (t : Treaty) : Type 0 where
+  pub cede : t .cede ≤ 10000
+  pub capacity : t .capacity ≤ 10 ^ 13
+  pub retention : t .retention ≤ 10 ^ 13
+  pub lines : t .lines ≤ 100
+  pub limit : t .limit ≤ 10 ^ 13
+
+pub record LossInRange (x : Loss) : Type 0 where
+  pub treaty : x .treaty ≤ 8
+  pub maximum-low : 1 ≤ x .maximum
+  pub maximum-high : x .maximum ≤ 10 ^ 13
+  pub amount : x .amount ≤ 10 ^ 13
+
+-- a covered part c of a loss with estimated maximum loss e
+pub record PartInRange (t : Treaty) (e c : ℕ) : Type 0 where
+  pub terms : TermsInRange t
+  pub maximum-low : 1 ≤ e
+  pub maximum-high : e ≤ 10 ^ 13
+  pub covered : c ≤ 10 ^ 13
+
+-- a loss that a treaty may be given, after earlier ones of the event that add up to u: all of a text's amounts
+-- add up to less than 2 ^ 62
+pub record Cedable (t : Treaty) (u : ℕ) (x : Loss) : Type 0 where
+  pub terms : TermsInRange t
+  pub loss : LossInRange x
+  pub earlier : u < 2 ^ 62

@@ -1,0 +1,51 @@
+-- Document 01, Proportional treaties.
+-- Assumes nothing.
+use mathlib.Core.Bool.{cond, _||_}
+use mathlib.Core.List.{List, [], _∷_}
+use Prim.Native.Nat.{ℕ, _+_, _-_, _*_, min}
+use lib.Dec.{eqb, leb, ltb}
+use Rattle.arith.specs.Round.{rounded}
+use Rattle.treaty.specs.declared.Treaty.{Treaty}
+use Rattle.treaty.specs.declared.Loss.{Loss}
+use Rattle.treaty.specs.declared.Cession.{Cession}
+
+-- the covered part c of g: g if the event limit is 0, otherwise the smaller of g and (limit − U, not below 0)
+unfoldable pub coveredPart : (limit u g : ℕ) → ℕ
+coveredPart limit u g = cond (eqb limit 0) g (min g (limit - u))
+
+-- quota share: c × cede / 10,000 if capacity is 0 or E ≤ capacity; otherwise c × cede × capacity / (10,000 × E)
+unfoldable pub cededByQuota : (cede capacity e c : ℕ) → ℕ
+cededByQuota cede capacity e c =
+    cond (eqb capacity 0 || leb e capacity) (rounded (c * cede) 10000) (rounded (c * cede * capacity) (10000 * e))
+
+-- surplus with retention r and n lines: 0 if E ≤ r; c × n × r / E if E > r × (1 + n); otherwise c × (E − r) / E
+unfoldable pub cededBySurplus : (r n e c : ℕ) → ℕ
+cededBySurplus r n e c =
+    cond (leb e r) 0 (cond (ltb (r * (1 + n)) e) (rounded (c * n * r) e) (rounded (c * (e - r)) e))
+
+-- what a treaty cedes of a covered part c at estimated maximum loss E: kind 1 is quota share, kind 2 surplus, and
+-- no other cedes
+unfoldable pub cededOf : Treaty → (e c : ℕ) → ℕ
+cededOf t e c =
+    cond (eqb (t .kind) 1) (cededByQuota (t .cede) (t .capacity) e c)
+    (cond (eqb (t .kind) 2) (cededBySurplus (t .retention) (t .lines) e c) 0)
+
+-- what it cedes of one loss, where U is the sum of its earlier amounts g in the event
+unfoldable pub cededOfLoss : Treaty → ℕ → Loss → ℕ
+cededOfLoss t u x = cededOf t (x .maximum) (coveredPart (t .limit) u (x .amount))
+
+-- that loss's cession: what is ceded, what is left of g, and U after it
+abbrev pub cessionOf : Treaty → ℕ → Loss → Cession
+cessionOf t u x = record {
+  ceded = cededOfLoss t u x;
+  left = x .amount - cededOfLoss t u x;
+  lost = u + x .amount;
+}
+
+-- what a treaty cedes of its losses of one event, in turn; U begins at 0 with each event
+abbrev pub cessionsFrom : ℕ → Treaty → List Loss → List ℕ
+cessionsFrom u t [] = []
+cessionsFrom u t (x ∷ xs) = cededOfLoss t u x ∷ cessionsFrom (u + x .amount) t xs
+
+abbrev pub cessions : Treaty → List Loss → List ℕ
+cessions t xs = cessionsFrom 0 t xs
