@@ -5,3 +5,4 @@ pub mod Records
 pub mod Year
 pub mod Tiers
 pub mod TierPass
+pub mod Corners

@@ -8,6 +8,18 @@ use Rattle.layer.specs.declared.record.Layer.{Layer}
 use Rattle.layer.specs.declared.record.Sums.{Sums}
 use Rattle.layer.specs.declared.record.Borne.{Borne}
 
+-- terms in the order of a table's line: (band A L) (deduct D) (back K Q P) (placed S)
+abbrev pub termsOf : (a l d k q p s : ℕ) → Terms
+termsOf a l d k q p s = record {
+  attachment = a;
+  limit = l;
+  deductible = d;
+  reinstatements = k;
+  rate = q;
+  premium = p;
+  share = s;
+}
+
 -- the loss that a subject amount x brings: x − a, not below 0 and not above l
 abbrev pub broughtBy : Terms → ℕ → ℕ
 broughtBy t x = min (t .limit) (x - t .attachment)

@@ -9,6 +9,18 @@ use Rattle.treaty.specs.declared.Treaty.{Treaty}
 use Rattle.treaty.specs.declared.Loss.{Loss}
 use Rattle.treaty.specs.declared.Cession.{Cession}
 
+-- the two kinds, in the order of a table's line: (quota T (cede C) (capacity A) (event L))
+abbrev pub quotaOf : (t c a l : ℕ) → Treaty
+quotaOf t c a l = record { kind = 1; number = t; cede = c; capacity = a; retention = 0; lines = 0; limit = l }
+
+-- (surplus T (retain R) (lines N) (event L))
+abbrev pub surplusOf : (t r n l : ℕ) → Treaty
+surplusOf t r n l = record { kind = 2; number = t; cede = 0; capacity = 0; retention = r; lines = n; limit = l }
+
+-- (loss T E G)
+abbrev pub lossOf : (t e g : ℕ) → Loss
+lossOf t e g = record { treaty = t; maximum = e; amount = g }
+
 -- the covered part c of g: g if the event limit is 0, otherwise the smaller of g and (limit − U, not below 0)
 unfoldable pub coveredPart : (limit u g : ℕ) → ℕ
 coveredPart limit u g = cond (eqb limit 0) g (min g (limit - u))

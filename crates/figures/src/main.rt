@@ -1,0 +1,211 @@
+// The checked figures of document 01, computed by the code: a line each, held to the stored output.
+ghost use mathlib.Core.Path.{_≡_};
+ghost use Prim.Native.Nat.{_^_, _≤_, _<_};
+ghost use Rattle.treaty.specs.Ranges.{TermsInRange, LossInRange};
+ghost use Rattle.layer.specs.Layer.{termsOf};
+ghost use Rattle.layer.specs.Ranges.{InRange, Sound, SoundTier};
+use layer::amount::Placed;
+use layer::amount::Whole;
+use layer::record::Layer;
+use layer::record::Sums;
+use layer::terms::Terms;
+use layer::tier::Tier;
+use libc::STDOUT_FILENO;
+use treaty::Loss;
+use treaty::Treaty;
+
+fn amount(cents: u64) {
+    io::write_all(STDOUT_FILENO, b" ");
+    io::print_decimal(STDOUT_FILENO, cents);
+}
+
+fn end_line() {
+    io::write_all(STDOUT_FILENO, b"\n");
+}
+
+fn line(name: &[u8], cents: u64) {
+    io::write_all(STDOUT_FILENO, name);
+    amount(cents);
+    end_line();
+}
+
+// A quota share of 4,000 bp.
+fn quota(capacity: u64, limit: u64) -> Treaty
+    requires { ⌜ (capacity ≤ 10 ^ 13) × (limit ≤ 10 ^ 13) ⌝ }
+    ensures { λ r. ⌜ TermsInRange r ⌝ }
+{
+    Treaty {
+        kind: treaty::QUOTA_SHARE,
+        number: 1,
+        cede: 4000,
+        capacity,
+        retention: 0,
+        lines: 0,
+        limit,
+    }
+}
+
+// A surplus of three lines with a retention of 10,000.
+fn surplus() -> Treaty
+    ensures { λ r. ⌜ TermsInRange r ⌝ }
+{
+    Treaty {
+        kind: treaty::SURPLUS,
+        number: 1,
+        cede: 0,
+        capacity: 0,
+        retention: 10000,
+        lines: 3,
+        limit: 0,
+    }
+}
+
+fn loss(maximum: u64, amount: u64) -> Loss
+    requires { ⌜ (1 ≤ maximum) × (maximum ≤ 10 ^ 13) × (amount ≤ 10 ^ 13) ⌝ }
+    ensures { λ r. ⌜ LossInRange r ⌝ }
+{
+    Loss {
+        treaty: 1,
+        maximum,
+        amount,
+    }
+}
+
+// What a treaty cedes of a loss, where `lost` came earlier in the event.
+fn cession(name: &[u8], treaty: Treaty, lost: u64, loss: Loss)
+    requires { ⌜ TermsInRange treaty × LossInRange loss × (lost < 2 ^ 62) ⌝ }
+{
+    let c = treaty.cede(lost, loss);
+    line(name, c.ceded);
+}
+
+fn quota_figures() {
+    cession(b"C1", quota(0, 0), 0, loss(101, 101));
+    cession(b"C2", quota(20000, 0), 0, loss(25000, 10000));
+    cession(b"C3", quota(20000, 0), 0, loss(20000, 10000));
+    cession(b"C4 first", quota(0, 15000), 0, loss(10000, 10000));
+    cession(b"C4 second", quota(0, 15000), 10000, loss(10000, 10000));
+    cession(b"C4 third", quota(0, 15000), 20000, loss(10000, 10000));
+}
+
+fn surplus_figures() {
+    cession(b"C5", surplus(), 0, loss(10000, 10000));
+    cession(b"C6", surplus(), 0, loss(10001, 10001));
+    cession(b"C7", surplus(), 0, loss(40000, 8000));
+    cession(b"C8", surplus(), 0, loss(50000, 8000));
+}
+
+// A layer with nothing spent, from the numbers of its line: (band A L) (deduct D) (back K Q P) (placed S).
+fn layer(a: u64, l: u64, d: u64, k: u64, q: u64, p: u64, s: u64) -> Layer
+    requires { ⌜ InRange (termsOf a l d k q p s) ⌝ }
+    ensures { λ r. ⌜ Sound r × (r .terms .attachment ≡ a) × (r .terms .limit ≡ l) ⌝ }
+{
+    let terms = Terms {
+        attachment: a,
+        limit: l,
+        deductible: d,
+        reinstatements: k,
+        rate: q,
+        premium: p,
+        share: s,
+    };
+    let spent = Whole::new(0);
+    Layer { terms, spent }
+}
+
+fn brought(name: &[u8], layer: Layer, subject: u64) {
+    let loss = layer.terms.brings(subject);
+    line(name, loss.cents());
+}
+
+// The record after a subject amount, whose recovery is shown.
+fn recovery(layer: Layer, subject: u64) -> Layer
+    requires { ⌜ Sound layer ⌝ }
+    ensures { λ r. ⌜ Sound r ⌝ }
+{
+    let none = Sums {
+        recovered: Placed::none(),
+        premium: Placed::none(),
+    };
+    let borne = layer.bear(subject, none);
+    let sums = borne.sums;
+    amount(sums.recovered.cents());
+    borne.layer
+}
+
+// The year's figures: deductible left, cover left, recovered, premium.
+fn year(layer: Layer)
+    requires { ⌜ Sound layer ⌝ }
+{
+    amount(layer.deductible_left().cents());
+    amount(layer.cover_left().cents());
+    amount(layer.recovered().cents());
+    amount(layer.premium().cents());
+}
+
+// The recoveries of subject amounts, in turn, and the year's figures after them.
+fn recoveries(name: &[u8], layer: Layer, subjects: &[u64])
+    requires { ⌜ Sound layer ⌝ }
+{
+    io::write_all(STDOUT_FILENO, name);
+    let mut now = layer;
+    let mut i = 0;
+    while i < subjects.len() {
+        now = recovery(now, subjects[i]);
+        i += 1;
+    }
+    io::write_all(STDOUT_FILENO, b" year");
+    year(now);
+    end_line();
+}
+
+fn layer_figures() {
+    brought(b"L1 at 50", layer(50, 100, 0, 0, 0, 0, 10000), 50);
+    brought(b"L1 at 51", layer(50, 100, 0, 0, 0, 0, 10000), 51);
+    recoveries(b"L2", layer(0, 100, 0, 0, 0, 0, 5000), &[1, 1]);
+    recoveries(
+        b"L3 used 150",
+        layer(0, 100, 0, 1, 10000, 1000, 10000),
+        &[100, 50],
+    );
+    recoveries(
+        b"L3 used 200",
+        layer(0, 100, 0, 1, 10000, 1000, 10000),
+        &[100, 50, 50],
+    );
+    recoveries(
+        b"L4",
+        layer(500000, 500000, 1000000, 1, 0, 0, 10000),
+        &[750000, 2000000, 1000000, 250000, 1000000],
+    );
+}
+
+// The catastrophe tier of H1.
+fn cat_tier() -> Tier
+    ensures { λ r. ⌜ SoundTier r ⌝ }
+{
+    let first = layer(25000000, 75000000, 75000000, 0, 0, 0, 10000);
+    let second = layer(100000000, 150000000, 0, 1, 5000, 75000000, 8000);
+    let third = layer(250000000, 150000000, 0, 1, 10000, 30000000, 7200);
+    let mut layers = [first; 8];
+    layers[1] = second;
+    layers[2] = third;
+    Tier { layers, count: 3 }
+}
+
+// One subject to every layer of a tier: recoveries and premiums, added.
+fn tier_figures() {
+    let borne = cat_tier().bear(350000000);
+    let sums = borne.sums;
+    io::write_all(STDOUT_FILENO, b"H1 tier");
+    amount(sums.recovered.cents());
+    amount(sums.premium.cents());
+    end_line();
+}
+
+fn main() {
+    quota_figures();
+    surplus_figures();
+    layer_figures();
+    tier_figures();
+}

@@ -1,0 +1,65 @@
+-- Figures at the corners of a layer's definitions, worked by hand, and those of the layers of document 01's H1.
+-- Assumes nothing.
+use mathlib.Core.Path.{_≡_, refl}
+use mathlib.Core.List.{List, [], _∷_, map}
+use Prim.Native.Nat.{ℕ}
+use Rattle.arith.specs.Round.{rounded}
+use Rattle.layer.specs.declared.terms.Terms.{Terms}
+use Rattle.layer.specs.declared.record.Layer.{Layer}
+use Rattle.layer.specs.Layer.{termsOf, broughtBy, deductibleLeftOf, coverLeftOf, recoveredOf, premiumOf}
+use Rattle.layer.specs.Layer.{layerOf, placedOf, recoveryOf, recoveriesOf, afterSubject}
+
+-- what a statement shows of a layer: deductible left, cover left, recovered, premium
+abbrev shown : Layer → List ℕ
+shown y =
+    deductibleLeftOf (y .terms) (y .spent .0) ∷ coverLeftOf (y .terms) (y .spent .0)
+    ∷ recoveredOf (y .terms) (y .spent .0) ∷ premiumOf (y .terms) (y .spent .0) ∷ []
+
+-- the largest terms of the table
+abbrev largest : Terms
+largest = termsOf 10000000000000 10000000000000 1000000000000000 20 20000 1000000000000 10000
+
+pub record Corners : Type 0 where
+  -- below, at and just above the attachment; at and above the end of the band
+  pub brought : map (broughtBy (termsOf 500 40 0 0 0 0 10000)) (0 ∷ 500 ∷ 501 ∷ 540 ∷ 541 ∷ [])
+      ≡ 0 ∷ 0 ∷ 1 ∷ 40 ∷ 40 ∷ []
+  -- nothing spent; inside the deductible of 1,000; just past it; at the cap of 1,000 + 700 × 3
+  pub unspent : shown (layerOf (termsOf 0 700 1000 2 5000 90 7200) 0) ≡ 1000 ∷ 2100 ∷ 0 ∷ 0 ∷ []
+  pub in-deductible : shown (layerOf (termsOf 0 700 1000 2 5000 90 7200) 999) ≡ 1 ∷ 2100 ∷ 0 ∷ 0 ∷ []
+  pub past-deductible : shown (layerOf (termsOf 0 700 1000 2 5000 90 7200) 1002) ≡ 0 ∷ 2098 ∷ 1 ∷ 0 ∷ []
+  -- B is 7,200 bp of 1,400, and 1,008 × 5,000 × 90 / 7,000,000 is 64.8
+  pub at-cap : shown (layerOf (termsOf 0 700 1000 2 5000 90 7200) 3100) ≡ 0 ∷ 0 ∷ 1512 ∷ 64 ∷ []
+  -- the last loss is cut off at the cap, and one after it brings nothing
+  pub cut-off : recoveriesOf (layerOf (termsOf 0 700 1000 2 5000 90 7200) 3000) (700 ∷ 700 ∷ []) ≡ 72 ∷ 0 ∷ []
+  -- cents at 3,333 bp come with the sums: 0.6666, 1.3332, 1.9998 and 2.6664
+  pub thirds : recoveriesOf (layerOf (termsOf 0 100 0 0 0 0 3333) 0) (2 ∷ 2 ∷ 2 ∷ 2 ∷ []) ≡ 0 ∷ 1 ∷ 0 ∷ 1 ∷ []
+  -- no reinstatement, no premium; nothing placed, nothing recovered
+  pub no-reinstatement : premiumOf (termsOf 0 100 0 0 10000 1000 10000) 100 ≡ 0
+  pub nothing-placed : shown (layerOf (termsOf 0 100 0 1 10000 1000 0) 150) ≡ 0 ∷ 50 ∷ 0 ∷ 0 ∷ []
+  -- the premium's B is rounded first: 3,333 bp of 5 is 1, and 1 × 5,000 × 100 / 70,000 is 7.14
+  pub premium-of-placed : premiumOf (termsOf 0 7 0 1 5000 100 3333) 5 ≡ 7
+  -- every term at its largest, at the cap
+  pub most : shown (layerOf largest 1210000000000000) ≡ 0 ∷ 0 ∷ 210000000000000 ∷ 40000000000000 ∷ []
+  -- document 01's H1: the three layers after the subject 350,000,000
+  pub H1 : map (λ (t : Terms). shown (afterSubject 350000000 (layerOf t 0)))
+      (termsOf 25000000 75000000 75000000 0 0 0 10000 ∷ termsOf 100000000 150000000 0 1 5000 75000000 8000
+      ∷ termsOf 250000000 150000000 0 1 10000 30000000 7200 ∷ [])
+      ≡ (0 ∷ 75000000 ∷ 0 ∷ 0 ∷ []) ∷ (0 ∷ 150000000 ∷ 120000000 ∷ 30000000 ∷ [])
+      ∷ (0 ∷ 200000000 ∷ 72000000 ∷ 14400000 ∷ []) ∷ []
+
+pub corners : Corners
+unfolding placedOf recoveredOf premiumOf recoveryOf rounded
+corners = record {
+  brought = refl;
+  unspent = refl;
+  in-deductible = refl;
+  past-deductible = refl;
+  at-cap = refl;
+  cut-off = refl;
+  thirds = refl;
+  no-reinstatement = refl;
+  nothing-placed = refl;
+  premium-of-placed = refl;
+  most = refl;
+  H1 = refl;
+}

@@ -1,0 +1,57 @@
+-- Figures at the corners of the treaties' definitions, worked by hand.
+-- Assumes nothing.
+use mathlib.Core.Path.{_≡_, refl}
+use mathlib.Core.List.{List, [], _∷_}
+use Prim.Native.Nat.{ℕ}
+use Rattle.arith.specs.Round.{rounded}
+use Rattle.treaty.specs.Treaty.{quotaOf, surplusOf, lossOf, cessions}
+use Rattle.treaty.specs.Treaty.{coveredPart, cededByQuota, cededBySurplus, cededOf, cededOfLoss}
+
+pub record Corners : Type 0 where
+  -- capacity 0 is none: 7,200 bp of 9,999 at any E
+  pub capacity-none : (e : ℕ) → cessions (quotaOf 1 7200 0 0) (lossOf 1 e 9999 ∷ []) ≡ 7199 ∷ []
+  -- E just above the capacity: 10,000 × 4,000 × 20,000 / 200,010,000
+  pub capacity-passed : cessions (quotaOf 1 4000 20000 0) (lossOf 1 20001 10000 ∷ []) ≡ 3999 ∷ []
+  -- all and nothing ceded
+  pub cede-all : cessions (quotaOf 1 10000 0 0) (lossOf 1 1 777 ∷ []) ≡ 777 ∷ []
+  pub cede-none : cessions (quotaOf 1 0 0 0) (lossOf 1 1 777 ∷ []) ≡ 0 ∷ []
+  -- event limit 0 is none
+  pub limit-none : cessions (quotaOf 1 4000 0 0) (lossOf 1 1 30000 ∷ lossOf 1 1 10001 ∷ []) ≡ 12000 ∷ 4000 ∷ []
+  -- the first loss passes the limit: U is then above it, and the second is not covered
+  pub limit-passed : cessions (quotaOf 1 4000 0 15000) (lossOf 1 1 20000 ∷ lossOf 1 1 10000 ∷ []) ≡ 6000 ∷ 0 ∷ []
+  -- U just below the limit: one cent is covered
+  pub limit-nearly : cessions (quotaOf 1 10000 0 15000) (lossOf 1 1 14999 ∷ lossOf 1 1 10000 ∷ []) ≡ 14999 ∷ 1 ∷ []
+  -- the limit cuts what a surplus covers before it cedes: 5,000 × 30,000 / 40,000
+  pub surplus-limited : cessions (surplusOf 1 10000 3 5000) (lossOf 1 40000 8000 ∷ []) ≡ 3750 ∷ []
+  -- E equal to the retention, and one above it: 8,000 × 1 / 10,001
+  pub retained : cessions (surplusOf 1 10000 3 0) (lossOf 1 10000 8000 ∷ lossOf 1 10001 8000 ∷ []) ≡ 0 ∷ 0 ∷ []
+  -- E equal to r × (1 + n), and one above it: 8,000 × 30,000 / 40,001
+  pub upper-end : cessions (surplusOf 1 10000 3 0) (lossOf 1 40000 8000 ∷ lossOf 1 40001 8000 ∷ []) ≡ 6000 ∷ 5999 ∷ []
+  -- retention 0 and lines 0 mean their 0
+  pub retention-zero : cessions (surplusOf 1 0 3 0) (lossOf 1 50000 8000 ∷ []) ≡ 0 ∷ []
+  pub lines-zero : cessions (surplusOf 1 10000 0 0) (lossOf 1 50000 8000 ∷ []) ≡ 0 ∷ []
+  -- g above E: 1,000,000 × 1 / 10,001, and 1,000,000 × 30,000 / 50,000
+  pub above-maximum : cessions (surplusOf 1 10000 3 0) (lossOf 1 10001 1000000 ∷ lossOf 1 50000 1000000 ∷ [])
+      ≡ 99 ∷ 600000 ∷ []
+  -- the largest numbers of the table: 10^13 × 9,999 × (10^13 − 1) / (10,000 × 10^13)
+  pub largest : cessions (quotaOf 1 9999 9999999999999 0) (lossOf 1 10000000000000 10000000000000 ∷ [])
+      ≡ 9998999999999 ∷ []
+
+pub corners : Corners
+unfolding coveredPart cededByQuota cededBySurplus cededOf cededOfLoss rounded
+corners = record {
+  capacity-none = λ e. refl;
+  capacity-passed = refl;
+  cede-all = refl;
+  cede-none = refl;
+  limit-none = refl;
+  limit-passed = refl;
+  limit-nearly = refl;
+  surplus-limited = refl;
+  retained = refl;
+  upper-end = refl;
+  retention-zero = refl;
+  lines-zero = refl;
+  above-maximum = refl;
+  largest = refl;
+}
