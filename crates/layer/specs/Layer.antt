@@ -72,7 +72,7 @@ layerAfter loss y = layerOf (y .terms) (cutAtCap (y .terms) (y .spent .0 + loss)
 unfoldable pub recoveryOf : ℕ → Layer → ℕ
 recoveryOf loss y = recoveredOf (y .terms) (layerAfter loss y .spent .0) - recoveredOf (y .terms) (y .spent .0)
 
--- and its premium, likewise
+-- and the premium charged for it, likewise
 unfoldable pub chargeOf : ℕ → Layer → ℕ
 chargeOf loss y = premiumOf (y .terms) (layerAfter loss y .spent .0) - premiumOf (y .terms) (y .spent .0)
 
