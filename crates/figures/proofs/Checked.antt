@@ -1,7 +1,7 @@
 -- Document 01, Checked figures: C1 to C8 and L1 to L4, about the definitions.
 -- Assumes nothing.
 use mathlib.Core.Path.{_≡_, refl}
-use mathlib.Core.List.{List, [], _∷_, map}
+use mathlib.Core.List.{[], _∷_, map}
 use Prim.Native.Nat.{ℕ}
 use Rattle.arith.specs.Round.{rounded}
 use Rattle.treaty.specs.Treaty.{quotaOf, surplusOf, lossOf, cessions}

@@ -1,7 +1,7 @@
 -- The reinstatement premium never falls, and is bounded.
 -- Assumes nothing.
 use mathlib.Core.Path.{_≡_}
-use Prim.Native.Nat.{ℕ, _+_, _-_, _*_, _≤_, _<_}
+use Prim.Native.Nat.{ℕ, _+_, _*_, _≤_, _<_}
 use native.Mathlib.Nat.{mul-le-mul-right, mul-right-comm}
 use native.Mathlib.Omega.{arith}
 use Rattle.arith.proofs.Rounding.{rounded-mono}

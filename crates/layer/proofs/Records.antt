@@ -1,13 +1,12 @@
 -- A layer's record through a loss: it stays sound, and a loss of 0 changes nothing.
 -- Assumes nothing.
-use mathlib.Core.Path.{_≡_, sym, _∙_}
-use Prim.Native.Nat.{ℕ, _+_, _-_, _≤_, min}
+use mathlib.Core.Path.{_≡_}
+use Prim.Native.Nat.{ℕ, _+_, _-_}
 use native.Mathlib.Nat.{add-zero, sub-self}
 use native.Mathlib.Omega.{arith}
 use Rattle.layer.specs.declared.record.Layer.{Layer}
 use Rattle.layer.specs.declared.record.Sums.{Sums}
-use Rattle.layer.specs.declared.record.Borne.{Borne}
-use Rattle.layer.specs.Layer.{capOf, cutAtCap, recoveredOf, premiumOf, layerAfter, recoveryOf, chargeOf, borneOf}
+use Rattle.layer.specs.Layer.{cutAtCap, recoveredOf, premiumOf, layerAfter, recoveryOf, chargeOf, borneOf}
 use Rattle.layer.specs.Ranges.{Sound}
 
 pub sound-after : (loss : ℕ) (y : Layer) → Sound y → Sound (layerAfter loss y)

@@ -1,13 +1,13 @@
 -- What a layer has recovered never falls, and grows by at most the loss.
 -- Assumes nothing.
-use mathlib.Core.Path.{_≡_, ap, _∙_}
-use Prim.Native.Nat.{ℕ, _+_, _-_, _*_, _≤_, min}
+use mathlib.Core.Path.{_≡_}
+use Prim.Native.Nat.{ℕ, _+_, _≤_}
 use native.Mathlib.Nat.{le-trans, zero-sub}
 use native.Mathlib.Omega.{arith}
 use Rattle.arith.proofs.Shares.{share-zero, share-mono, share-grows}
 use Rattle.layer.specs.declared.terms.Terms.{Terms}
 use Rattle.layer.specs.declared.record.Layer.{Layer}
-use Rattle.layer.specs.Layer.{usedOf, placedOf, recoveredOf, layerAfter, recoveryOf, broughtBy, recoveryBy}
+use Rattle.layer.specs.Layer.{usedOf, placedOf, recoveredOf, layerAfter, recoveryOf}
 use Rattle.layer.specs.Ranges.{Sound}
 
 module _ (t : Terms) where

@@ -7,14 +7,12 @@ use native.Mathlib.Nat.{zero-add}
 use native.Mathlib.Omega.{arith}
 use lib.ListN.{length, take, drop, getD, set, length-set}
 use lib.Seq.{slice, length-take-le}
-use Rattle.lists.specs.Sums.{sumOf}
 use Rattle.lists.specs.Each.{Each}
 use Rattle.lists.proofs.Passes.{each-next, each-step, map-step, sum-step, map-end, sum-end}
 use Rattle.layer.specs.declared.record.Layer.{Layer}
 use Rattle.layer.specs.declared.record.Sums.{Sums}
 use Rattle.layer.specs.declared.record.Borne.{Borne}
 use Rattle.layer.specs.declared.tier.Tier.{Tier}
-use Rattle.layer.specs.declared.tier.TierBorne.{TierBorne}
 use Rattle.layer.specs.Layer.{afterSubject, recoveryBy, chargeBy, sumsOf, borneBy}
 use Rattle.layer.specs.Tier.{layersAfter, recoveriesBy, chargesBy, layersOf, tierAfter, tierBorne}
 use Rattle.layer.specs.Ranges.{Sound, Room, SoundTier}

@@ -1,7 +1,7 @@
 // The two columns of a layer's money, in whole cents. Their fields are private to this file, so no other file adds
 // the two or takes one for the other: `Whole::placed` alone leads from the first to the second.
 ghost use mathlib.Core.Path.{_≡_};
-ghost use Prim.Native.Nat.{_+_, _-_, _*_, _^_, _≤_, _<_, min};
+ghost use Prim.Native.Nat.{_+_, _-_, _*_, _^_, _<_, min};
 ghost use Rattle.arith.specs.Round.{rounded};
 ghost use Rattle.arith.specs.Ranges.{Wide, Narrow};
 

@@ -1,7 +1,7 @@
 -- Bounds on sums, from bounds on each element.
 -- Assumes nothing.
 use mathlib.Core.List.{List, [], _∷_}
-use Prim.Native.Nat.{ℕ, _+_, _*_, _≤_, zero-le}
+use Prim.Native.Nat.{ℕ, _*_, _≤_, zero-le}
 use native.Mathlib.Nat.{add-le-add, suc-mul}
 use native.Mathlib.Omega.{arith}
 use lib.ListN.{length}

@@ -1,13 +1,13 @@
 -- A treaty's products stay within the ranges of product-and-divide.
 -- Assumes nothing.
-use Prim.Native.Nat.{ℕ, _+_, _*_, _^_, _≤_, _<_}
+use Prim.Native.Nat.{ℕ, _+_, _*_, _^_, _<_}
 use native.Mathlib.Nat.{le-of-lt, mul-le-mul}
 use native.Mathlib.Omega.{arith}
 use mir.Syntax.{w64}
 use mir.Val.{Fits}
 use Rattle.arith.specs.Ranges.{Wide}
 use Rattle.treaty.specs.declared.Treaty.{Treaty}
-use Rattle.treaty.specs.Ranges.{TermsInRange, PartInRange}
+use Rattle.treaty.specs.Ranges.{PartInRange}
 
 module _ (t : Treaty) (e c : ℕ) (p : PartInRange t e c) where
   pub quota-product : Fits w64 (t .cede * t .capacity)

@@ -1,7 +1,7 @@
 -- Figures at the corners of the treaties' definitions, worked by hand.
 -- Assumes nothing.
 use mathlib.Core.Path.{_≡_, refl}
-use mathlib.Core.List.{List, [], _∷_}
+use mathlib.Core.List.{[], _∷_}
 use Prim.Native.Nat.{ℕ}
 use Rattle.arith.specs.Round.{rounded}
 use Rattle.treaty.specs.Treaty.{quotaOf, surplusOf, lossOf, cessions}

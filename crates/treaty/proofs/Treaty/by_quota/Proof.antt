@@ -1,8 +1,6 @@
 -- `treaty::Treaty::by_quota` meets its contract.
 -- Assumes nothing.
 use borrow.Author.Needs.{needs}
-use native.Mathlib.Nat.{le-of-lt, mul-le-mul}
-use native.Mathlib.Omega.{arith}
 use Rattle.treaty.proofs.Bounds.{quota-product, quota-wide}
 use Rattle.treaty.proofs.Cases.{quota-without-capacity, quota-within, quota-above}
 use Rattle.treaty.proofs.Treaty.by_quota.Statement.{statement}

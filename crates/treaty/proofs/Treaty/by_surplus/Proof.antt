@@ -1,9 +1,6 @@
 -- `treaty::Treaty::by_surplus` meets its contract.
 -- Assumes nothing.
 use borrow.Author.Needs.{needs}
-use Prim.Native.Nat.{_+_}
-use native.Mathlib.Nat.{mul-le-mul}
-use native.Mathlib.Omega.{arith}
 use Rattle.treaty.proofs.Bounds.{surplus-product}
 use Rattle.treaty.proofs.Cases.{surplus-retained, surplus-above, surplus-between}
 use Rattle.treaty.proofs.Treaty.by_surplus.Statement.{statement}

@@ -1,7 +1,6 @@
 -- `treaty::Treaty::covered` meets its contract.
 -- Assumes nothing.
 use borrow.Author.Needs.{needs}
-use native.Mathlib.Omega.{arith}
 use Rattle.treaty.proofs.Cases.{unlimited, used-up, within-limit, above-limit}
 use Rattle.treaty.proofs.Treaty.covered.Statement.{statement}
 use Rattle.treaty.proofs.Treaty.covered.Tie as tie
