@@ -8,12 +8,20 @@ use Rattle.layer.specs.declared.terms.Terms.{Terms}
 use Rattle.layer.specs.declared.record.Layer.{Layer}
 use Rattle.layer.specs.Layer.{termsOf, broughtBy, deductibleLeftOf, coverLeftOf, recoveredOf, premiumOf}
 use Rattle.layer.specs.Layer.{layerOf, placedOf, recoveryOf, recoveriesOf, afterSubject}
+use Rattle.layer.specs.Tier.{recoveriesBy, layersAfter}
 
 -- what a statement shows of a layer: deductible left, cover left, recovered, premium
 abbrev shown : Layer → List ℕ
 shown y =
     deductibleLeftOf (y .terms) (y .spent .0) ∷ coverLeftOf (y .terms) (y .spent .0)
     ∷ recoveredOf (y .terms) (y .spent .0) ∷ premiumOf (y .terms) (y .spent .0) ∷ []
+
+abbrev spentOf : Layer → ℕ
+spentOf y = y .spent .0
+
+-- two layers of one tier
+abbrev pair : List Layer
+pair = layerOf (termsOf 10 40 0 0 0 0 3333) 0 ∷ layerOf (termsOf 50 100 0 0 0 0 7200) 0 ∷ []
 
 -- the largest terms of the table
 abbrev largest : Terms
@@ -40,6 +48,9 @@ pub record Corners : Type 0 where
   pub premium-of-placed : premiumOf (termsOf 0 7 0 1 5000 100 3333) 5 ≡ 7
   -- every term at its largest, at the cap
   pub most : shown (layerOf largest 1210000000000000) ≡ 0 ∷ 0 ∷ 210000000000000 ∷ 40000000000000 ∷ []
+  -- one subject of 120 to bands 10 40 and 50 100: both look at all of it; 3,333 bp of 40 is 13, 7,200 bp of 70 is 50
+  pub one-subject : map spentOf (layersAfter 120 pair) ≡ 40 ∷ 70 ∷ []
+  pub one-subject-recovered : recoveriesBy 120 pair ≡ 63
   -- document 01's H1: the three layers after the subject 350,000,000
   pub H1 : map (λ (t : Terms). shown (afterSubject 350000000 (layerOf t 0)))
       (termsOf 25000000 75000000 75000000 0 0 0 10000 ∷ termsOf 100000000 150000000 0 1 5000 75000000 8000
@@ -61,5 +72,7 @@ corners = record {
   nothing-placed = refl;
   premium-of-placed = refl;
   most = refl;
+  one-subject = refl;
+  one-subject-recovered = refl;
   H1 = refl;
 }
