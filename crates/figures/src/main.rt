@@ -71,11 +71,11 @@ fn loss(maximum: u64, amount: u64) -> Loss
     }
 }
 
-// What a treaty cedes of a loss, where `lost` came earlier in the event.
-fn cession(name: &[u8], treaty: Treaty, lost: u64, loss: Loss)
-    requires { ⌜ TermsInRange treaty × LossInRange loss × (lost < 2 ^ 62) ⌝ }
+// What a treaty cedes of a loss, where earlier ones of the event add up to `earlier`.
+fn cession(name: &[u8], treaty: Treaty, earlier: u64, loss: Loss)
+    requires { ⌜ TermsInRange treaty × LossInRange loss × (earlier < 2 ^ 62) ⌝ }
 {
-    let c = treaty.cede(lost, loss);
+    let c = treaty.cede(earlier, loss);
     line(name, c.ceded);
 }
 
@@ -107,7 +107,7 @@ fn layer(a: u64, l: u64, d: u64, k: u64, q: u64, p: u64, s: u64) -> Layer
         reinstatements: k,
         rate: q,
         premium: p,
-        share: s,
+        placed: s,
     };
     let spent = Whole::new(0);
     Layer { terms, spent }

@@ -1,4 +1,4 @@
--- Figures at the corners of a layer's definitions, worked by hand, and those of the layers of document 01's H1.
+-- Figures at the corners of a layer's definitions, and those of the layers of document 01's H1.
 -- Assumes nothing.
 use mathlib.Core.Path.{_≡_, refl}
 use mathlib.Core.List.{List, [], _∷_, map}
@@ -37,7 +37,7 @@ pub record Corners : Type 0 where
   pub past-deductible : shown (layerOf (termsOf 0 700 1000 2 5000 90 7200) 1002) ≡ 0 ∷ 2098 ∷ 1 ∷ 0 ∷ []
   -- B is 7,200 bp of 1,400, and 1,008 × 5,000 × 90 / 7,000,000 is 64.8
   pub at-cap : shown (layerOf (termsOf 0 700 1000 2 5000 90 7200) 3100) ≡ 0 ∷ 0 ∷ 1512 ∷ 64 ∷ []
-  -- the last loss is cut off at the cap, and one after it brings nothing
+  -- the last loss is cut off at the cap, and one after it recovers nothing
   pub cut-off : recoveriesOf (layerOf (termsOf 0 700 1000 2 5000 90 7200) 3000) (700 ∷ 700 ∷ []) ≡ 72 ∷ 0 ∷ []
   -- cents at 3,333 bp come with the sums: 0.6666, 1.3332, 1.9998 and 2.6664
   pub thirds : recoveriesOf (layerOf (termsOf 0 100 0 0 0 0 3333) 0) (2 ∷ 2 ∷ 2 ∷ 2 ∷ []) ≡ 0 ∷ 1 ∷ 0 ∷ 1 ∷ []

@@ -25,7 +25,7 @@ losses-le x e (y ∷ ys) r = omega (arith, losses-le x (y .terms .attachment + y
 pub recoveries-le-losses : (x : ℕ) (ys : List Layer) → Each Sound ys → recoveriesBy x ys ≤ lossesBy x ys
 recoveries-le-losses x ys s =
     sum-le-sum Sound (recoveryBy x) (λ (y : Layer). broughtBy (y .terms) x)
-    (λ y h. recovery-le (broughtBy (y .terms) x) y (h .terms .share)) ys s
+    (λ y h. recovery-le (broughtBy (y .terms) x) y (h .terms .placed)) ys s
 
 -- so the recoveries never exceed the subject
 pub recoveries-le-subject : (x : ℕ) (ys : List Layer) → Each Sound ys → Rising 0 ys → recoveriesBy x ys ≤ x
@@ -34,7 +34,7 @@ recoveries-le-subject x ys s r = omega (arith, recoveries-le-losses x ys s, loss
 pub recoveries-le : (x : ℕ) (ys : List Layer) → Each Sound ys → recoveriesBy x ys ≤ length ys * 10000000000000
 recoveries-le x ys s =
     sum-le Sound (recoveryBy x) 10000000000000
-    (λ y h. omega (arith, recovery-le (broughtBy (y .terms) x) y (h .terms .share), h .terms)) ys s
+    (λ y h. omega (arith, recovery-le (broughtBy (y .terms) x) y (h .terms .placed), h .terms)) ys s
 
 pub charges-le : (x : ℕ) (ys : List Layer) → Each Sound ys → chargesBy x ys ≤ length ys * 40000000000000
 charges-le x ys s =

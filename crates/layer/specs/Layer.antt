@@ -17,7 +17,7 @@ termsOf a l d k q p s = record {
   reinstatements = k;
   rate = q;
   premium = p;
-  share = s;
+  placed = s;
 }
 
 -- the loss that a subject amount x brings: x − a, not below 0 and not above l
@@ -46,7 +46,7 @@ usedOf t m = m - t .deductible
 
 -- an amount at 100% of the layer, at its placed share: × s / 10,000
 unfoldable pub placedOf : Terms → ℕ → ℕ
-placedOf t a = rounded (a * t .share) 10000
+placedOf t a = rounded (a * t .placed) 10000
 
 -- recovered: used × s / 10,000
 unfoldable pub recoveredOf : Terms → ℕ → ℕ
@@ -68,13 +68,19 @@ layerOf t m = record { terms = t; spent = record { 0 = m } }
 abbrev pub layerAfter : ℕ → Layer → Layer
 layerAfter loss y = layerOf (y .terms) (cutAtCap (y .terms) (y .spent .0 + loss))
 
--- that loss's recovery: the year's figure after it less the figure before it
-unfoldable pub recoveryOf : ℕ → Layer → ℕ
-recoveryOf loss y = recoveredOf (y .terms) (layerAfter loss y .spent .0) - recoveredOf (y .terms) (y .spent .0)
+-- the year's figures of a record less those of a record before it
+abbrev pub recoveredSince : Layer → Layer → ℕ
+recoveredSince before y = recoveredOf (y .terms) (y .spent .0) - recoveredOf (before .terms) (before .spent .0)
 
--- and the premium charged for it, likewise
+abbrev pub chargedSince : Layer → Layer → ℕ
+chargedSince before y = premiumOf (y .terms) (y .spent .0) - premiumOf (before .terms) (before .spent .0)
+
+-- one loss's recovery and premium: the year's figure after it less the figure before it
+unfoldable pub recoveryOf : ℕ → Layer → ℕ
+recoveryOf loss y = recoveredSince y (layerAfter loss y)
+
 unfoldable pub chargeOf : ℕ → Layer → ℕ
-chargeOf loss y = premiumOf (y .terms) (layerAfter loss y .spent .0) - premiumOf (y .terms) (y .spent .0)
+chargeOf loss y = chargedSince y (layerAfter loss y)
 
 -- recoveries and premiums, added
 abbrev pub sumsOf : ℕ → ℕ → Sums
@@ -92,7 +98,7 @@ abbrev pub recoveriesOf : Layer → List ℕ → List ℕ
 recoveriesOf y [] = []
 recoveriesOf y (loss ∷ losses) = recoveryOf loss y ∷ recoveriesOf (layerAfter loss y) losses
 
--- the same for the loss that a subject amount x brings
+-- the record after the loss that a subject amount x brings, its recovery, its premium, and all three with the sums
 abbrev pub afterSubject : ℕ → Layer → Layer
 afterSubject x y = layerAfter (broughtBy (y .terms) x) y
 

@@ -11,6 +11,7 @@ use Rattle.layer.specs.declared.tier.Tier.{Tier}
 use Rattle.layer.specs.Layer.{capOf}
 use Rattle.layer.specs.Tier.{layersOf}
 
+-- a layer line's numbers
 pub record InRange (t : Terms) : Type 0 where
   pub attachment : t .attachment ≤ 10 ^ 13
   pub limit-low : 1 ≤ t .limit
@@ -19,7 +20,7 @@ pub record InRange (t : Terms) : Type 0 where
   pub reinstatements : t .reinstatements ≤ 20
   pub rate : t .rate ≤ 20000
   pub premium : t .premium ≤ 10 ^ 12
-  pub share : t .share ≤ 10000
+  pub placed : t .placed ≤ 10000
 
 -- a record that may stand in a year: terms in range, and no more spent than the cap
 pub record Sound (y : Layer) : Type 0 where

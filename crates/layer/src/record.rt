@@ -2,7 +2,7 @@
 ghost use mathlib.Core.Path.{_≡_};
 ghost use Prim.Native.Nat.{_≤_};
 ghost use Rattle.layer.specs.Layer.{deductibleLeftOf, coverLeftOf, usedOf, reinstatedOf, recoveredOf, premiumOf};
-ghost use Rattle.layer.specs.Layer.{layerAfter, borneOf, borneBy};
+ghost use Rattle.layer.specs.Layer.{layerAfter, recoveredSince, chargedSince, borneOf, borneBy};
 ghost use Rattle.layer.specs.Ranges.{Sound, Room};
 use crate::amount::Placed;
 use crate::amount::Whole;
@@ -63,7 +63,7 @@ impl Layer {
         requires { ⌜ Sound self ⌝ }
         ensures { λ r. ⌜ r .0 ≡ recoveredOf (self .terms) (self .spent .0) ⌝ }
     {
-        self.terms.placed(self.used())
+        self.terms.placed_share(self.used())
     }
 
     // The used amount as far as there are reinstatements for it.
@@ -81,12 +81,28 @@ impl Layer {
         ensures { λ r. ⌜ r .0 ≡ premiumOf (self .terms) (self .spent .0) ⌝ }
     {
         let terms = self.terms;
-        let base = terms.placed(self.reinstated());
+        let base = terms.placed_share(self.reinstated());
         base.premium(
             terms.rate,
             Whole::new(terms.premium),
             Whole::new(terms.limit),
         )
+    }
+
+    // What has been recovered since an earlier record of the year: one loss's recovery, from the record before it.
+    pub fn recovery_since(self, before: Layer) -> Placed
+        requires { ⌜ Sound self × Sound before ⌝ }
+        ensures { λ r. ⌜ r .0 ≡ recoveredSince before self ⌝ }
+    {
+        self.recovered().less(before.recovered())
+    }
+
+    // The premium charged since an earlier record of the year.
+    pub fn premium_since(self, before: Layer) -> Placed
+        requires { ⌜ Sound self × Sound before ⌝ }
+        ensures { λ r. ⌜ r .0 ≡ chargedSince before self ⌝ }
+    {
+        self.premium().less(before.premium())
     }
 
     // The record and the sums after the loss that a subject amount brings; no loss leaves both as they are.
@@ -107,8 +123,8 @@ impl Layer {
         ensures { λ r. ⌜ r ≡ borneOf (loss .0) sums self ⌝ }
     {
         let after = self.take(loss);
-        let recovery = after.recovered().less(self.recovered());
-        let premium = after.premium().less(self.premium());
+        let recovery = after.recovery_since(self);
+        let premium = after.premium_since(self);
         Borne {
             layer: after,
             sums: Sums {

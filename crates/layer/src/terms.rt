@@ -14,7 +14,7 @@ pub struct Terms {
     pub reinstatements: u64,
     pub rate: u64,
     pub premium: u64,
-    pub share: u64,
+    pub placed: u64,
 }
 
 impl Terms {
@@ -35,10 +35,10 @@ impl Terms {
     }
 
     // An amount of the layer at its placed share; used amounts are at most the limit and its reinstatements.
-    pub fn placed(self, amount: Whole) -> Placed
+    pub fn placed_share(self, amount: Whole) -> Placed
         requires { ⌜ InRange self × (amount .0 ≤ 21 * self .limit) ⌝ }
         ensures { λ r. ⌜ r .0 ≡ placedOf self (amount .0) ⌝ }
     {
-        amount.placed(self.share)
+        amount.placed_share(self.placed)
     }
 }

@@ -1,4 +1,4 @@
--- Figures at the corners of the treaties' definitions, worked by hand.
+-- Figures at the corners of the treaties' definitions.
 -- Assumes nothing.
 use mathlib.Core.Path.{_≡_, refl}
 use mathlib.Core.List.{[], _∷_}
@@ -30,10 +30,13 @@ pub record Corners : Type 0 where
   -- retention 0 and lines 0 mean their 0
   pub retention-zero : cessions (surplusOf 1 0 3 0) (lossOf 1 50000 8000 ∷ []) ≡ 0 ∷ []
   pub lines-zero : cessions (surplusOf 1 10000 0 0) (lossOf 1 50000 8000 ∷ []) ≡ 0 ∷ []
+  -- a loss of another treaty counts neither as a loss nor in U
+  pub others : cessions (quotaOf 1 4000 0 15000) (lossOf 1 1 10000 ∷ lossOf 2 1 9000 ∷ lossOf 1 1 8000 ∷ [])
+      ≡ 4000 ∷ 2000 ∷ []
   -- g above E: 1,000,000 × 1 / 10,001, and 1,000,000 × 30,000 / 50,000
   pub above-maximum : cessions (surplusOf 1 10000 3 0) (lossOf 1 10001 1000000 ∷ lossOf 1 50000 1000000 ∷ [])
       ≡ 99 ∷ 600000 ∷ []
-  -- the largest numbers of the table: 10^13 × 9,999 × (10^13 − 1) / (10,000 × 10^13)
+  -- E and g at their largest, cede and capacity one below: 10^13 × 9,999 × (10^13 − 1) / (10,000 × 10^13)
   pub largest : cessions (quotaOf 1 9999 9999999999999 0) (lossOf 1 10000000000000 10000000000000 ∷ [])
       ≡ 9998999999999 ∷ []
 
@@ -52,6 +55,7 @@ corners = record {
   upper-end = refl;
   retention-zero = refl;
   lines-zero = refl;
+  others = refl;
   above-maximum = refl;
   largest = refl;
 }

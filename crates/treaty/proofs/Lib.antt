@@ -1,4 +1,5 @@
 pub mod Bounds
 pub mod Cases
 pub mod Cessions
+pub mod Own
 pub mod Corners

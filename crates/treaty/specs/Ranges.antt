@@ -4,7 +4,7 @@ use Prim.Native.Nat.{ℕ, _^_, _≤_, _<_}
 use Rattle.treaty.specs.declared.Treaty.{Treaty}
 use Rattle.treaty.specs.declared.Loss.{Loss}
 
--- a treaty's terms; those of the other kind are 0
+-- a treaty's terms
 pub record TermsInRange (t : Treaty) : Type 0 where
   pub cede : t .cede ≤ 10000
   pub capacity : t .capacity ≤ 10 ^ 13
@@ -12,6 +12,7 @@ pub record TermsInRange (t : Treaty) : Type 0 where
   pub lines : t .lines ≤ 100
   pub limit : t .limit ≤ 10 ^ 13
 
+-- a loss form's numbers
 pub record LossInRange (x : Loss) : Type 0 where
   pub treaty : x .treaty ≤ 8
   pub maximum-low : 1 ≤ x .maximum

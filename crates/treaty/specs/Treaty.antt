@@ -51,13 +51,19 @@ abbrev pub cessionOf : Treaty → ℕ → Loss → Cession
 cessionOf t u x = record {
   ceded = cededOfLoss t u x;
   left = x .amount - cededOfLoss t u x;
-  lost = u + x .amount;
+  total = u + x .amount;
 }
 
--- what a treaty cedes of its losses of one event, in turn; U begins at 0 with each event
+-- what a treaty cedes of losses in turn, where the earlier ones of the event add up to u
 abbrev pub cessionsFrom : ℕ → Treaty → List Loss → List ℕ
 cessionsFrom u t [] = []
 cessionsFrom u t (x ∷ xs) = cededOfLoss t u x ∷ cessionsFrom (u + x .amount) t xs
 
+-- the losses of an event that are a treaty's own: those with its number
+abbrev pub ownLosses : Treaty → List Loss → List Loss
+ownLosses t [] = []
+ownLosses t (x ∷ xs) = cond (eqb (x .treaty) (t .number)) (x ∷ ownLosses t xs) (ownLosses t xs)
+
+-- what a treaty cedes of an event's losses, in turn; U begins at 0 with each event
 abbrev pub cessions : Treaty → List Loss → List ℕ
-cessions t xs = cessionsFrom 0 t xs
+cessions t xs = cessionsFrom 0 t (ownLosses t xs)

@@ -26,26 +26,26 @@ pub struct Loss {
     pub amount: u64,
 }
 
-// What a treaty does with one loss: what is ceded, what is left, and U after it, the treaty's amounts of the
-// event so far.
+// What a treaty does with one loss: what is ceded, what is left, and U after it, the total of the treaty's losses
+// of the event with this one.
 pub struct Cession {
     pub ceded: u64,
     pub left: u64,
-    pub lost: u64,
+    pub total: u64,
 }
 
 impl Treaty {
-    // The part of an amount within the event limit, where `lost` came earlier in the event.
-    fn covered(self, lost: u64, amount: u64) -> u64
-        ensures { λ r. ⌜ r ≡ coveredPart (self .limit) lost amount ⌝ }
+    // The part of an amount within the event limit, where earlier losses of the event add up to `earlier`.
+    fn covered(self, earlier: u64, amount: u64) -> u64
+        ensures { λ r. ⌜ r ≡ coveredPart (self .limit) earlier amount ⌝ }
     {
         if self.limit == 0 {
             return amount;
         }
-        if self.limit <= lost {
+        if self.limit <= earlier {
             return 0;
         }
-        let room = self.limit - lost;
+        let room = self.limit - earlier;
         if amount <= room { amount } else { room }
     }
 
@@ -87,17 +87,17 @@ impl Treaty {
         }
     }
 
-    // The cession of one loss, where `lost` came to the treaty earlier in the event.
-    pub fn cede(self, lost: u64, loss: Loss) -> Cession
-        requires { ⌜ Cedable self lost loss ⌝ }
-        ensures { λ r. ⌜ r ≡ cessionOf self lost loss ⌝ }
+    // The cession of one loss, where the treaty's earlier losses of the event add up to `earlier`.
+    pub fn cede(self, earlier: u64, loss: Loss) -> Cession
+        requires { ⌜ Cedable self earlier loss ⌝ }
+        ensures { λ r. ⌜ r ≡ cessionOf self earlier loss ⌝ }
     {
-        let covered = self.covered(lost, loss.amount);
+        let covered = self.covered(earlier, loss.amount);
         let ceded = self.by_kind(loss.maximum, covered);
         Cession {
             ceded,
             left: loss.amount - ceded,
-            lost: lost + loss.amount,
+            total: earlier + loss.amount,
         }
     }
 }

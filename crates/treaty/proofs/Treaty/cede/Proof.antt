@@ -10,7 +10,7 @@ use Rattle.treaty.proofs.Treaty.cede.Tie as tie
 
 -- what is ceded is the definition's
 ceded-is : (c : tie.After-by-kind)
-    → let s = c .before .before .args in c .by-kind .result ≡ cededOfLoss (s .self) (s .lost) (s .loss)
+    → let s = c .before .before .args in c .by-kind .result ≡ cededOfLoss (s .self) (s .earlier) (s .loss)
 unfolding cededOfLoss
 ceded-is c = c .by-kind .ensures ∙ ap (cededOf _ _) (c .before .covered .ensures)
 
@@ -20,12 +20,13 @@ covered-requires c κs = search needs
 by-kind-requires : tie.Need-by-kind-requires
 by-kind-requires c κs =
     let s = c .before in
-    omega (arith, c .covered .ensures, covered-le (s .args .self .limit) (s .args .lost) (s .args .loss .amount))
+    omega (arith, c .covered .ensures, covered-le (s .args .self .limit) (s .args .earlier) (s .args .loss .amount))
 
 sub-t6 : tie.Need-sub-t6
 sub-t6 c =
     let s = c .before .before .before in
-    rw (ceded-is (c .before)) (ceded-le-amount (s .args .self) (s .args .lost) (s .args .loss) (s .pre .terms .cede))
+    rw (ceded-is (c .before))
+    (ceded-le-amount (s .args .self) (s .args .earlier) (s .args .loss) (s .pre .terms .cede))
 
 add-t7 : tie.Need-add-t7
 add-t7 c = search needs
