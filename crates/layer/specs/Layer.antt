@@ -93,10 +93,17 @@ borneOf loss s y = record {
   sums = sumsOf (s .recovered .0 + recoveryOf loss y) (s .premium .0 + chargeOf loss y);
 }
 
--- the recoveries of losses, in turn
+-- an amount of each of several losses, in turn
+abbrev pub inTurn : (ℕ → Layer → ℕ) → Layer → List ℕ → List ℕ
+inTurn f y [] = []
+inTurn f y (loss ∷ losses) = f loss y ∷ inTurn f (layerAfter loss y) losses
+
+-- their recoveries and their premiums
 abbrev pub recoveriesOf : Layer → List ℕ → List ℕ
-recoveriesOf y [] = []
-recoveriesOf y (loss ∷ losses) = recoveryOf loss y ∷ recoveriesOf (layerAfter loss y) losses
+recoveriesOf y losses = inTurn recoveryOf y losses
+
+abbrev pub chargesOf : Layer → List ℕ → List ℕ
+chargesOf y losses = inTurn chargeOf y losses
 
 -- the record after the loss that a subject amount x brings, its recovery, its premium, and all three with the sums
 abbrev pub afterSubject : ℕ → Layer → Layer

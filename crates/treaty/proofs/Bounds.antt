@@ -1,8 +1,12 @@
 -- A treaty's products stay within the ranges of product-and-divide.
 -- Assumes nothing.
-use Prim.Native.Nat.{ℕ, _+_, _*_, _^_, _<_}
+use mathlib.Core.Path.{_≡_}
+use mathlib.Core.Bool.{false}
+use Prim.Native.Nat.{ℕ, _+_, _*_, _^_}
 use native.Mathlib.Nat.{le-of-lt, mul-le-mul}
 use native.Mathlib.Omega.{arith}
+use borrow.Author.Tests.{leb-false}
+use lib.Dec.{leb}
 use mir.Syntax.{w64}
 use mir.Val.{Fits}
 use Rattle.arith.specs.Ranges.{Wide}
@@ -13,8 +17,8 @@ module _ (t : Treaty) (e c : ℕ) (p : PartInRange t e c) where
   pub quota-product : Fits w64 (t .cede * t .capacity)
   quota-product = omega (arith, mul-le-mul (p .terms .cede) (p .terms .capacity))
 
-  pub quota-wide : t .capacity < e → Wide c (t .cede * t .capacity) (10000 * e)
-  quota-wide h = omega (arith, mul-le-mul (p .terms .cede) (le-of-lt h))
+  pub quota-wide : leb e (t .capacity) ≡ false → Wide c (t .cede * t .capacity) (10000 * e)
+  quota-wide h = omega (arith, mul-le-mul (p .terms .cede) (le-of-lt (leb-false e (t .capacity) h)))
 
   pub surplus-product : Fits w64 (t .retention * (1 + t .lines))
   surplus-product =

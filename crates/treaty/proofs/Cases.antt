@@ -1,10 +1,12 @@
 -- The cases of the treaties' definitions, each under the tests that lead to it.
 -- Assumes nothing.
 use mathlib.Core.Path.{_≡_, ap, sym, _∙_}
+use mathlib.Core.Bool.{true, false}
 use Prim.Native.Nat.{ℕ, _+_, _-_, _*_, _≤_, _<_, min}
 use native.Mathlib.Nat.{mul-assoc}
 use native.Mathlib.Omega.{arith}
 use borrow.Author.Tests.{eq-eqb, ne-eqb, le-leb, lt-leb, lt-ltb, le-ltb}
+use lib.Dec.{leb}
 use Rattle.arith.specs.Round.{rounded}
 use Rattle.treaty.specs.declared.Treaty.{Treaty}
 use Rattle.treaty.specs.Treaty.{coveredPart, cededByQuota, cededBySurplus, cededOf}
@@ -32,16 +34,16 @@ module _ (cede capacity e c x : ℕ) where
   unfolding cededByQuota
   quota-without-capacity h r = simp (eq-eqb _ _ h) r
 
-  pub quota-within : (capacity ≡ 0 → ⊥) → e ≤ capacity → x ≡ rounded (c * cede) 10000
+  pub quota-within : (capacity ≡ 0 → ⊥) → leb e capacity ≡ true → x ≡ rounded (c * cede) 10000
       → x ≡ cededByQuota cede capacity e c
   unfolding cededByQuota
-  quota-within h k r = simp (ne-eqb _ _ h, le-leb _ _ k) r
+  quota-within h k r = simp (ne-eqb _ _ h, k) r
 
-  pub quota-above : (capacity ≡ 0 → ⊥) → capacity < e → x ≡ rounded (c * (cede * capacity)) (10000 * e)
+  pub quota-above : (capacity ≡ 0 → ⊥) → leb e capacity ≡ false → x ≡ rounded (c * (cede * capacity)) (10000 * e)
       → x ≡ cededByQuota cede capacity e c
   unfolding cededByQuota
   quota-above h k r =
-      simp (ne-eqb _ _ h, lt-leb _ _ k) (r ∙ ap (λ (n : ℕ). rounded n (10000 * e)) (sym (mul-assoc c cede capacity)))
+      simp (ne-eqb _ _ h, k) (r ∙ ap (λ (n : ℕ). rounded n (10000 * e)) (sym (mul-assoc c cede capacity)))
 
 module _ (r n e c x : ℕ) where
   pub surplus-retained : e ≤ r → 0 ≡ cededBySurplus r n e c

@@ -53,10 +53,7 @@ impl Treaty {
         requires { ⌜ PartInRange self maximum covered ⌝ }
         ensures { λ r. ⌜ r ≡ cededByQuota (self .cede) (self .capacity) maximum covered ⌝ }
     {
-        if self.capacity == 0 {
-            return arith::mul_div_word(covered, self.cede, 10000);
-        }
-        if maximum <= self.capacity {
+        if self.capacity == 0 || maximum <= self.capacity {
             return arith::mul_div_word(covered, self.cede, 10000);
         }
         arith::mul_div(covered, self.cede * self.capacity, 10000 * maximum)
