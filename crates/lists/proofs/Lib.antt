@@ -1,3 +1,5 @@
 pub mod Growth
 pub mod Bounds
 pub mod Passes
+pub mod Chains
+pub mod Each

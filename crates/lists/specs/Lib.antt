@@ -1,2 +1,4 @@
 pub mod Sums
 pub mod Each
+pub mod Chains
+pub mod Places

@@ -1,0 +1,38 @@
+-- Laws of a fact of each element: of two lists put together, of a list mapped, and of a list that passes tests.
+-- Assumes nothing.
+use mathlib.Core.Path.{_≡_}
+use mathlib.Core.Bool.{Bool, true}
+use mathlib.Core.List.{List, [], _∷_, _++_, map}
+use Prim.Native.Nat.{ℕ}
+use Rattle.lists.specs.Each.{Each}
+use Rattle.lists.specs.Chains.{chained, every}
+use Rattle.lists.proofs.Chains.{both}
+
+module _ {A : Type 0} (P : A → Type 0) where
+  pub each-append : (xs ys : List A) → Each P xs → Each P ys → Each P (xs ++ ys)
+  each-append [] ys e f = f
+  each-append (x ∷ xs) ys e f = (e .0, each-append xs ys (e .1) f)
+
+  -- what holds of anything
+  pub each-of : ((x : A) → P x) → (xs : List A) → Each P xs
+  each-of f [] = tt
+  each-of f (x ∷ xs) = (f x, each-of f xs)
+
+  pub each-map : {B : Type 0} (f : B → A) (xs : List B) → Each (λ (x : B). P (f x)) xs → Each P (map f xs)
+  each-map f [] e = tt
+  each-map f (x ∷ xs) e = (e .0, each-map f xs (e .1))
+
+  -- what the test tells of an element, where all pass
+  pub each-every : (passes : A → Bool) → ((x : A) → passes x ≡ true → P x) → (xs : List A) → every passes xs ≡ true
+      → Each P xs
+  each-every passes h [] e = tt
+  each-every passes h (x ∷ xs) e =
+      let f = both (passes x) (every passes xs) e in
+      (h x (f .0), each-every passes h xs (f .1))
+
+  pub each-chained : (passes : ℕ → A → Bool) (figure : A → ℕ) → ((n : ℕ) (x : A) → passes n x ≡ true → P x)
+      → (n : ℕ) (xs : List A) → chained passes figure n xs ≡ true → Each P xs
+  each-chained passes figure h n [] e = tt
+  each-chained passes figure h n (x ∷ xs) e =
+      let f = both (passes n x) (chained passes figure (figure x) xs) e in
+      (h n x (f .0), each-chained passes figure h (figure x) xs (f .1))
