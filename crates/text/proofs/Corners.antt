@@ -1,0 +1,83 @@
+-- Numbers, templates and lines computed by the definitions.
+-- Assumes nothing.
+use mathlib.Core.Path.{_≡_, refl}
+use mathlib.Core.List.{[], _∷_, _++_}
+use mathlib.Core.Option.{none, some}
+use Prim.Native.Nat.{_+_, _*_, _^_}
+use Rattle.text.specs.Bytes.{bytes}
+use Rattle.text.specs.Number.{printedBy, printed, digits, digitOf, readOn, number}
+use Rattle.text.specs.Template.{capital, filled, matched, wholeOf, lineNumbers}
+use Rattle.text.specs.Lines.{linesOf, joined}
+
+pub record Corners : Type 0 where
+  -- printed: 0 itself, no leading zero, and more than sixteen digits where a total needs them
+  pub zero-printed : digits 0 ≡ bytes "0"
+  pub ten-printed : digits 10 ≡ bytes "10"
+  pub amount-printed : digits 350000000 ≡ bytes "350000000"
+  pub total-printed : digits (64 * 10 ^ 16 + 1) ≡ bytes "640000000000000001"
+  -- read: 1 to 16 digits
+  pub zero-read : number (bytes "0)") ≡ some (0, bytes ")")
+  pub sixteen-read : number (bytes "9999999999999999 ") ≡ some (9999999999999999, bytes " ")
+  pub seventeen : number (bytes "10000000000000000 ") ≡ none
+  pub leading-zero : number (bytes "01 ") ≡ none
+  pub two-zeros : number (bytes "00") ≡ none
+  pub no-digit : number (bytes " 1") ≡ none
+  pub sign : number (bytes "-1") ≡ none
+  pub nothing : number [] ≡ none
+  -- the bytes next to the digits
+  pub below-digits : number (47 ∷ []) ≡ none
+  pub above-digits : number (58 ∷ []) ≡ none
+  pub ended-above : number (bytes "7:") ≡ some (7, bytes ":")
+  -- templates
+  pub form-printed : filled (bytes "(band A L)") (50 ∷ 100 ∷ []) [] ≡ bytes "(band 50 100)"
+  pub form-read : matched [] (bytes "(band A L)") (bytes "(band 50 100) (") ≡ some (50 ∷ 100 ∷ [], bytes " (")
+  pub line-read : lineNumbers (bytes "(band A L)") (bytes "(band 50 100)") ≡ some (50 ∷ 100 ∷ [])
+  pub line-longer : lineNumbers (bytes "(band A L)") (bytes "(band 50 100) ") ≡ none
+  pub line-shorter : lineNumbers (bytes "(band A L)") (bytes "(band 50 100") ≡ none
+  pub two-spaces : lineNumbers (bytes "(band A L)") (bytes "(band 50  100)") ≡ none
+  pub a-letter : lineNumbers (bytes "(band A L)") (bytes "(band A 100)") ≡ none
+  -- a tab for the space, and bytes after the form: a carriage return, a NUL, one above 127
+  pub a-tab : lineNumbers (bytes "(band A L)") (bytes "(band" ++ (9 ∷ bytes "50 100)")) ≡ none
+  pub carriage-return : lineNumbers (bytes "(band A L)") (bytes "(band 50 100)" ++ (13 ∷ [])) ≡ none
+  pub nul : lineNumbers (bytes "(band A L)") (bytes "(band 50 100)" ++ (0 ∷ [])) ≡ none
+  pub high-byte : lineNumbers (bytes "(band A L)") (bytes "(band 50 100)" ++ (255 ∷ [])) ≡ none
+  -- lines
+  pub no-lines : linesOf [] ≡ []
+  pub empty-line : linesOf (bytes "\n") ≡ some [] ∷ []
+  pub two-and-a-half : linesOf (bytes "ab\n\nc") ≡ some (bytes "ab") ∷ some [] ∷ none ∷ []
+  pub put-together : joined (bytes "ab" ∷ [] ∷ []) ≡ bytes "ab\n\n"
+
+pub corners : Corners
+unfolding printedBy printed digitOf readOn number capital filled matched wholeOf lineNumbers linesOf
+corners = record {
+  zero-printed = refl;
+  ten-printed = refl;
+  amount-printed = refl;
+  total-printed = refl;
+  zero-read = refl;
+  sixteen-read = refl;
+  seventeen = refl;
+  leading-zero = refl;
+  two-zeros = refl;
+  no-digit = refl;
+  sign = refl;
+  nothing = refl;
+  below-digits = refl;
+  above-digits = refl;
+  ended-above = refl;
+  form-printed = refl;
+  form-read = refl;
+  line-read = refl;
+  line-longer = refl;
+  line-shorter = refl;
+  two-spaces = refl;
+  a-letter = refl;
+  a-tab = refl;
+  carriage-return = refl;
+  nul = refl;
+  high-byte = refl;
+  no-lines = refl;
+  empty-line = refl;
+  two-and-a-half = refl;
+  put-together = refl;
+}

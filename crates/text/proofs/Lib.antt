@@ -1,0 +1,12 @@
+pub mod Cases
+pub mod Printing
+pub mod Digits
+pub mod Templates
+pub mod Forms
+pub mod Matching
+pub mod Puts
+pub mod Lengths
+pub mod Filling
+pub mod Feeds
+pub mod Ascii
+pub mod Corners

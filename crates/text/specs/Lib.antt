@@ -1,0 +1,5 @@
+pub mod Bytes
+pub mod Buffer
+pub mod Number
+pub mod Template
+pub mod Lines

@@ -1,0 +1,5 @@
+// Texts: bytes into a lent buffer, numbers in base 10, templates, lines. No word of insurance.
+pub mod buffer;
+pub mod line;
+pub mod number;
+pub mod template;
