@@ -7,6 +7,7 @@ use crate::amount::Placed;
 use crate::amount::Whole;
 
 // Attachment, limit, deductible and premium are at 100% of the layer; rate and placed share are in basis points.
+#[repr(C)]
 pub struct Terms {
     pub attachment: u64,
     pub limit: u64,

@@ -9,6 +9,7 @@ pub const SURPLUS: u64 = 2;
 
 // A treaty: its kind, its number in the table, the terms of both kinds (those of the other kind are 0) and
 // its event limit. Capacity 0 and limit 0 mean none.
+#[repr(C)]
 pub struct Treaty {
     pub kind: u64,
     pub number: u64,

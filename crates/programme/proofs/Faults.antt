@@ -1,0 +1,136 @@
+-- The cases of the faults 3, 4 and 5, each under the tests that lead to it.
+-- Assumes nothing.
+use mathlib.Core.Path.{_≡_, refl, sym, ap, _∙_}
+use Prim.Native.Nat.{ℕ, _+_, _≤_, _<_}
+use native.Mathlib.Omega.{arith}
+use mir.Syntax.{w64}
+use mir.Val.{Fits}
+use borrow.Author.Tests.{lt-ltb, le-ltb, le-leb, lt-leb}
+use Rattle.text.proofs.Cases.{by-lt}
+use Rattle.treaty.specs.declared.Treaty.{Treaty}
+use Rattle.layer.specs.declared.terms.Terms.{Terms}
+use Rattle.programme.specs.declared.contract.Contract.{Contract}
+use Rattle.programme.specs.declared.contract.Contract.the-variants.{Proportional, Risk, Cat}
+use Rattle.programme.specs.declared.rule.Last.{Last}
+use Rattle.programme.specs.declared.rule.Progress.{Progress}
+use Rattle.programme.specs.Ranges.{treatyOutside, termsOutside}
+use Rattle.programme.specs.Rules.{treatyFault, layerFault, faultAfter}
+use Rattle.programme.specs.LineByLine.{nextOf, progressAfter}
+use Rattle.programme.proofs.Bounds.{band-end}
+
+module _ (later before : ℕ) (t : Treaty) (n : ℕ) (e : n ≡ treatyOutside t) where
+  pub treaty-3 : 0 < n → 3 ≡ treatyFault later before t
+  unfolding treatyFault
+  treaty-3 h = rw (← e) (simp (lt-ltb _ _ h))
+
+  module _ (z : n ≤ 0) where
+    pub treaty-order : 0 < later → 4 ≡ treatyFault later before t
+    unfolding treatyFault
+    treaty-order h = rw (← e) (simp (le-ltb _ _ z, lt-ltb _ _ h))
+
+    module _ (o : later ≤ 0) where
+      pub treaty-number : t .number ≤ before → 4 ≡ treatyFault later before t
+      unfolding treatyFault
+      treaty-number h = rw (← e) (simp (le-ltb _ _ z, le-ltb _ _ o, le-leb _ _ h))
+
+      pub treaty-fine : before < t .number → 0 ≡ treatyFault later before t
+      unfolding treatyFault
+      treaty-fine h = rw (← e) (simp (le-ltb _ _ z, le-ltb _ _ o, lt-leb _ _ h))
+
+module _ (later : ℕ) (before : Last) (l : Terms) (n : ℕ) (e : n ≡ termsOutside l) where
+  pub layer-3 : 0 < n → 3 ≡ layerFault later before l
+  unfolding layerFault
+  layer-3 h = rw (← e) (simp (lt-ltb _ _ h))
+
+  module _ (z : n ≤ 0) where
+    pub layer-order : 0 < later → 4 ≡ layerFault later before l
+    unfolding layerFault
+    layer-order h = rw (← e) (simp (le-ltb _ _ z, lt-ltb _ _ h))
+
+    module _ (o : later ≤ 0) where
+      pub layer-ninth : 8 ≤ before .count → 4 ≡ layerFault later before l
+      unfolding layerFault
+      layer-ninth h = rw (← e) (simp (le-ltb _ _ z, le-ltb _ _ o, le-leb _ _ h))
+
+      module _ (f : before .count < 8) where
+        pub layer-5 : l .attachment < before .figure → 5 ≡ layerFault later before l
+        unfolding layerFault
+        layer-5 h = rw (← e) (simp (le-ltb _ _ z, le-ltb _ _ o, lt-leb _ _ f, lt-ltb _ _ h))
+
+        pub layer-fine : before .figure ≤ l .attachment → 0 ≡ layerFault later before l
+        unfolding layerFault
+        layer-fine h = rw (← e) (simp (le-ltb _ _ z, le-ltb _ _ o, lt-leb _ _ f, le-ltb _ _ h))
+
+-- the fault of a contract, by its kind
+module _ (p : Progress) (x : Contract) (r : ℕ) where
+  pub treaty-faults : (t : Treaty) → x ≡ Proportional t
+      → r ≡ treatyFault (p .risk .count + p .cat .count) (p .treaties .figure) t → r ≡ faultAfter p x
+  treaty-faults t e h = rw e h
+
+  pub risk-faults : (l : Terms) → x ≡ Risk l → r ≡ layerFault (p .cat .count) (p .risk) l → r ≡ faultAfter p x
+  risk-faults l e h = rw e h
+
+  pub cat-faults : (l : Terms) → x ≡ Cat l → r ≡ layerFault 0 (p .cat) l → r ≡ faultAfter p x
+  cat-faults l e h = rw e h
+
+-- what a treaty without fault keeps to
+pub record TreatyFaultless (later before : ℕ) (t : Treaty) : Type 0 where
+  pub inside : treatyOutside t ≡ 0
+  pub order : later ≡ 0
+  pub number : before < t .number
+
+pub treaty-faultless : (later before : ℕ) (t : Treaty) → treatyFault later before t ≡ 0
+    → TreatyFaultless later before t
+treaty-faultless later before t z =
+    by-lt 0 (treatyOutside t)
+    (λ h. absurd (omega (arith, treaty-3 later before t (treatyOutside t) refl h)))
+    (λ h. by-lt 0 later
+    (λ k. absurd (omega (arith, treaty-order later before t (treatyOutside t) refl h k)))
+    (λ k. by-lt before (t .number)
+    (λ l. record { inside = omega arith; order = omega arith; number = l })
+    (λ l. absurd (omega (arith, treaty-number later before t (treatyOutside t) refl h k l)))))
+
+-- what a layer without fault keeps to
+pub record LayerFaultless (later : ℕ) (before : Last) (l : Terms) : Type 0 where
+  pub inside : termsOutside l ≡ 0
+  pub order : later ≡ 0
+  pub few : before .count < 8
+  pub attachment : before .figure ≤ l .attachment
+
+pub layer-faultless : (later : ℕ) (before : Last) (l : Terms) → layerFault later before l ≡ 0
+    → LayerFaultless later before l
+layer-faultless later before l z =
+    by-lt 0 (termsOutside l)
+    (λ h. absurd (omega (arith, layer-3 later before l (termsOutside l) refl h)))
+    (λ h. by-lt 0 later
+    (λ k. absurd (omega (arith, layer-order later before l (termsOutside l) refl h k)))
+    (λ k. by-lt (before .count) 8
+    (λ f. by-lt (l .attachment) (before .figure)
+    (λ a. absurd (omega (arith, layer-5 later before l (termsOutside l) refl h k f a)))
+    (λ a. record { inside = omega arith; order = omega arith; few = f; attachment = a }))
+    (λ f. absurd (omega (arith, layer-ninth later before l (termsOutside l) refl h k f)))))
+
+-- the end of the band of a layer without fault fits a word, and what stands before the next line
+module _ (p : Progress) (x : Contract) (z : faultAfter p x ≡ 0) where
+  band-fits : (later : ℕ) (before : Last) (l : Terms) → layerFault later before l ≡ 0
+      → Fits w64 (l .attachment + l .limit)
+  band-fits later before l f = omega (arith, band-end l (layer-faultless later before l f .inside))
+
+  pub risk-end : (l : Terms) → x ≡ Risk l → Fits w64 (l .attachment + l .limit)
+  risk-end l e = band-fits (p .cat .count) (p .risk) l (sym (ap (faultAfter p) e) ∙ z)
+
+  pub cat-end : (l : Terms) → x ≡ Cat l → Fits w64 (l .attachment + l .limit)
+  cat-end l e = band-fits 0 (p .cat) l (sym (ap (faultAfter p) e) ∙ z)
+
+module _ (p : Progress) (x : Contract) (n : Last) where
+  pub treaty-after : (t : Treaty) → x ≡ Proportional t → n ≡ nextOf (p .treaties) (t .number)
+      → record { treaties = n; risk = p .risk; cat = p .cat } ≡ progressAfter p x
+  treaty-after t e h = rw (e, h)
+
+  pub risk-after : (l : Terms) → x ≡ Risk l → n ≡ nextOf (p .risk) (l .attachment + l .limit)
+      → record { treaties = p .treaties; risk = n; cat = p .cat } ≡ progressAfter p x
+  risk-after l e h = rw (e, h)
+
+  pub cat-after : (l : Terms) → x ≡ Cat l → n ≡ nextOf (p .cat) (l .attachment + l .limit)
+      → record { treaties = p .treaties; risk = p .risk; cat = n } ≡ progressAfter p x
+  cat-after l e h = rw (e, h)

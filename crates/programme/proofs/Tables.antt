@@ -1,0 +1,152 @@
+-- Laws of a table text: its parts, a pass over places that puts a line for each, and what a valid programme keeps to.
+-- Assumes nothing.
+use mathlib.Core.Path.{_≡_, sym}
+use mathlib.Core.Bool.{Bool, true, _&&_}
+use mathlib.Core.List.{List, [], _∷_, _++_, map, map-map, map-append, append-assoc}
+use Prim.Native.Nat.{ℕ, suc, _+_, _*_, _^_, _≤_, _<_}
+use native.Mathlib.Numerals.{add-one}
+use native.Mathlib.Omega.{arith}
+use borrow.Author.Tests.{leb-true, eqb-true, eq-eqb, ne-eqb}
+use lib.Dec.{eqb, leb}
+use lib.ListN.{length, take, drop, getD}
+use lib.Seq.{slice, slice-cons, slice-empty}
+use Rattle.lists.specs.Chains.{chained, every}
+use Rattle.lists.proofs.Chains.{both}
+use Rattle.text.specs.Buffer.{Put}
+use Rattle.text.specs.Lines.{joined}
+use Rattle.text.specs.Template.{filled}
+use Rattle.text.proofs.Puts.{put-append, Putting, none-put, one-put, all-put, putting-length}
+use Rattle.text.proofs.Feeds.{joined-append}
+use Rattle.treaty.specs.declared.Treaty.{Treaty}
+use Rattle.programme.specs.declared.contract.Treaties.{Treaties}
+use Rattle.programme.specs.declared.contract.Layers.{Layers}
+use Rattle.programme.specs.declared.contract.Programme.{Programme}
+use Rattle.programme.specs.Contracts.{Contracts, treatiesIn, layersIn, contractsIn}
+use Rattle.programme.specs.Forms.{quotaText, surplusText, riskText, catText, quotaNumbers}
+use Rattle.programme.specs.Forms.{surplusNumbers, treatyLine, termsLine, tableOf}
+use Rattle.programme.specs.Rules.{treatyNumber, bandEnd}
+use Rattle.programme.specs.Valid.{treatyPasses, layerPasses, treatyUnused, termsUnused}
+use Rattle.programme.specs.Valid.{eightPlaces, validTreaties, validLayers, valid}
+use Rattle.programme.specs.Write.{textOf}
+
+-- a table text is the lines of the treaties, then those of the risk layers, then those of the cat layers
+pub table-parts : (c : Contracts) → tableOf c
+    ≡ joined (map treatyLine (c .treaties))
+    ++ (joined (map (termsLine riskText) (c .risk)) ++ joined (map (termsLine catText) (c .cat)))
+table-parts c = simp (map-append, map-map, joined-append)
+
+-- the three parts put one after another
+pub table-put : (p : Programme) {d d′ d″ d‴ : List ℕ} {first second end : ℕ}
+    → Put d 0 (joined (map treatyLine (treatiesIn (p .treaties)))) d′ first
+    → Put d′ first (joined (map (termsLine riskText) (layersIn (p .risk)))) d″ second
+    → Put d″ second (joined (map (termsLine catText) (layersIn (p .cat)))) d‴ end
+    → Put d 0 (textOf p) d‴ end
+table-put p a b c = rw (table-parts (contractsIn p)) (put-append a (put-append b c))
+
+-- a treaty's line by its kind
+module _ (t : Treaty) {d d′ : List ℕ} {at next : ℕ} where
+  pub surplus-put : t .kind ≡ 2 → Put d at (filled surplusText (surplusNumbers t) [] ++ (10 ∷ [])) d′ next
+      → Put d at (treatyLine t ++ (10 ∷ [])) d′ next
+  unfolding treatyLine
+  surplus-put e p = simp (treatyLine, eq-eqb (t .kind) 2 e) p
+
+  pub quota-put : (t .kind ≡ 2 → ⊥) → Put d at (filled quotaText (quotaNumbers t) [] ++ (10 ∷ [])) d′ next
+      → Put d at (treatyLine t ++ (10 ∷ [])) d′ next
+  unfolding treatyLine
+  quota-put e p = simp (treatyLine, ne-eqb (t .kind) 2 e) p
+
+-- The lines of the first n of the elements xs are put into the buffer d from the place `at` on, one after another.
+-- When the first i are put, the buffer is d′ and the place after them `next`.
+pub record Lined {A : Type 0} (line : A → List ℕ) (xs : List A) (n : ℕ) (d : List ℕ) (at : ℕ) (d′ : List ℕ)
+    (next i : ℕ) : Type 0 where
+  pub within : i ≤ n
+  pub inside : n ≤ length xs
+  pub short : next ≤ at + 1200 * i
+  pub putting : Putting d at (joined (map line (take n xs))) d′ next (joined (map line (slice i n xs)))
+
+module _ {A : Type 0} (line : A → List ℕ) (xs : List A) (n : ℕ) (d : List ℕ) (at : ℕ) where
+  pub none-lined : n ≤ length xs → Lined line xs n d at d at 0
+  none-lined h = record {
+    within = omega arith;
+    inside = h;
+    short = omega arith;
+    putting = none-put d at (joined (map line (take n xs)));
+  }
+
+  module _ (d′ : List ℕ) (next i : ℕ) (g : Lined line xs n d at d′ next i) where
+    pub lined-length : length d′ ≡ length d
+    lined-length = putting-length (g .putting)
+
+    pub lined-small : at < 2 ^ 32 → n ≤ 8 → next < 2 ^ 60
+    lined-small a k = omega (arith, g .within, g .short)
+
+    -- one line more
+    module _ (x : A) (more : i < n) where
+      next-line : joined (map line (slice i n xs))
+          ≡ (line (getD xs i x) ++ (10 ∷ [])) ++ joined (map line (slice (i + 1) n xs))
+      next-line =
+          rw (slice-cons i n xs x more (g .inside), add-one i)
+          (sym (append-assoc (line (getD xs i x)) (10 ∷ []) (joined (map line (slice (suc i) n xs)))))
+
+      pub one-lined : {d″ : List ℕ} {end : ℕ} → Put d′ next (line (getD xs i x) ++ (10 ∷ [])) d″ end
+          → end ≤ next + 1200 → Lined line xs n d at d″ end (i + 1)
+      one-lined p k = record {
+        within = omega arith;
+        inside = g .inside;
+        short = omega (arith, g .short);
+        putting = one-put (g .putting) _ _ next-line p;
+      }
+
+    -- no line is left
+    module _ (ended : n ≤ i) where
+      pub all-lined : Put d at (joined (map line (take n xs))) d′ next
+      all-lined =
+          let e : i ≡ n = omega (arith, g .within) in
+          all-put (g .putting) (rw (e, slice-empty))
+
+      pub lined-short : n ≤ 8 → next ≤ at + 9600
+      lined-short k = omega (arith, g .within, g .short)
+
+-- what a test of validity that holds tells
+pub places-tell : {A : Type 0} (unused : A → Bool) (n : ℕ) (xs : List A) → eightPlaces unused n xs ≡ true
+    → (length xs ≡ 8) × (n ≤ 8) × (every unused (drop n xs) ≡ true)
+places-tell unused n xs e =
+    let f = both (eqb (length xs) 8) (leb n 8 && every unused (drop n xs)) e in
+    let g = both (leb n 8) (every unused (drop n xs)) (f .1) in
+    (eqb-true _ _ (f .0), leb-true _ _ (g .0), g .1)
+
+pub treaties-tell : (t : Treaties) → validTreaties t ≡ true
+    → (eightPlaces treatyUnused (t .count) (t .places) ≡ true)
+    × (chained treatyPasses treatyNumber 0 (treatiesIn t) ≡ true)
+unfolding validTreaties
+treaties-tell t e =
+    both (eightPlaces treatyUnused (t .count) (t .places)) (chained treatyPasses treatyNumber 0 (treatiesIn t)) e
+
+pub layers-tell : (l : Layers) → validLayers l ≡ true
+    → (eightPlaces termsUnused (l .count) (l .places) ≡ true) × (chained layerPasses bandEnd 0 (layersIn l) ≡ true)
+unfolding validLayers
+layers-tell l e = both (eightPlaces termsUnused (l .count) (l .places)) (chained layerPasses bandEnd 0 (layersIn l)) e
+
+pub valid-tells : (p : Programme) → valid p ≡ true
+    → (validTreaties (p .treaties) ≡ true) × (validLayers (p .risk) ≡ true) × (validLayers (p .cat) ≡ true)
+unfolding valid
+valid-tells p e =
+    let t = both (validTreaties (p .treaties)) (validLayers (p .risk) && validLayers (p .cat)) e in
+    let l = both (validLayers (p .risk)) (validLayers (p .cat)) (t .1) in
+    (t .0, l .0, l .1)
+
+-- a valid programme has at most eight of each kind
+layers-few : (l : Layers) → validLayers l ≡ true → l .count ≤ 8
+layers-few l e = places-tell termsUnused (l .count) (l .places) (layers-tell l e .0) .1
+
+module _ (p : Programme) (e : valid p ≡ true) where
+  pub few-treaties : p .treaties .count ≤ 8
+  few-treaties =
+      let t = treaties-tell (p .treaties) (valid-tells p e .0) in
+      places-tell treatyUnused (p .treaties .count) (p .treaties .places) (t .0) .1
+
+  pub few-risk : p .risk .count ≤ 8
+  few-risk = layers-few (p .risk) (valid-tells p e .1)
+
+  pub few-cat : p .cat .count ≤ 8
+  few-cat = layers-few (p .cat) (valid-tells p e .2)

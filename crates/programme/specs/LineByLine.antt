@@ -1,0 +1,43 @@
+-- What reading keeps from line to line: how many of each kind were read, their last figures, and the places.
+-- Assumes nothing.
+use mathlib.Core.List.{List}
+use Prim.Native.Nat.{ℕ, _+_, _≤_}
+use Rattle.treaty.specs.declared.Treaty.{Treaty}
+use Rattle.layer.specs.declared.terms.Terms.{Terms}
+use Rattle.programme.specs.declared.Reading.{Reading}
+use Rattle.programme.specs.declared.contract.Contract.{Contract}
+use Rattle.programme.specs.declared.contract.Contract.the-variants.{Proportional, Risk, Cat}
+use Rattle.programme.specs.declared.rule.Last.{Last}
+use Rattle.programme.specs.declared.rule.Progress.{Progress}
+use Rattle.programme.specs.Rules.{bandEnd}
+use Rattle.programme.specs.Read.{readAs}
+
+-- how many of a contract's kind stand before it: its place
+abbrev pub placeAfter : Progress → Contract → ℕ
+placeAfter p (Proportional t) = p .treaties .count
+placeAfter p (Risk l) = p .risk .count
+placeAfter p (Cat l) = p .cat .count
+
+-- one more of a kind, with its figure
+abbrev pub nextOf : Last → ℕ → Last
+nextOf last figure = record { count = last .count + 1; figure = figure }
+
+-- what stands before the line after a contract's
+abbrev pub progressAfter : Progress → Contract → Progress
+progressAfter p (Proportional t) = record { treaties = nextOf (p .treaties) (t .number); risk = p .risk; cat = p .cat }
+progressAfter p (Risk l) = record { treaties = p .treaties; risk = nextOf (p .risk) (bandEnd l); cat = p .cat }
+progressAfter p (Cat l) = record { treaties = p .treaties; risk = p .risk; cat = nextOf (p .cat) (bandEnd l) }
+
+-- no more than eight of a kind stand before a line
+pub record EightAtMost (p : Progress) : Type 0 where
+  pub treaties : p .treaties .count ≤ 8
+  pub risk : p .risk .count ≤ 8
+  pub cat : p .cat .count ≤ 8
+
+-- a success with these places, used as far as the counts tell
+abbrev pub readPlaces : List Treaty → List Terms → List Terms → Progress → Reading
+readPlaces ts rs cs p = readAs (record {
+  treaties = record { places = ts; count = p .treaties .count };
+  risk = record { places = rs; count = p .risk .count };
+  cat = record { places = cs; count = p .cat .count };
+})

@@ -1,0 +1,95 @@
+// The ranges of a table's numbers.
+ghost use mathlib.Core.Path.{_≡_};
+ghost use Prim.Native.Nat.{_≤_};
+ghost use Rattle.programme.specs.Ranges.{outside, quotaOutside, surplusOutside, treatyOutside};
+ghost use Rattle.programme.specs.Ranges.{termsOutside, treatyNotZero, termsNotZero};
+use layer::terms::Terms;
+use treaty::Treaty;
+
+// 1 for a number outside its range, 0 for one within it.
+fn outside(low: u64, high: u64, n: u64) -> u64
+    ensures { λ r. ⌜ (r ≡ outside low high n) × (r ≤ 1) ⌝ }
+{
+    if n < low {
+        return 1;
+    }
+    if high < n {
+        return 1;
+    }
+    0
+}
+
+// How many of a quota share's numbers are outside their range.
+fn quota_outside(t: Treaty) -> u64
+    ensures { λ r. ⌜ r ≡ quotaOutside t ⌝ }
+{
+    outside(1, 8, t.number)
+        + outside(0, 10000, t.cede)
+        + outside(0, 10000000000000, t.capacity)
+        + outside(0, 10000000000000, t.limit)
+        + outside(0, 0, t.retention)
+        + outside(0, 0, t.lines)
+}
+
+// How many of a surplus's numbers are outside their range.
+fn surplus_outside(t: Treaty) -> u64
+    ensures { λ r. ⌜ r ≡ surplusOutside t ⌝ }
+{
+    outside(1, 8, t.number)
+        + outside(0, 10000000000000, t.retention)
+        + outside(0, 100, t.lines)
+        + outside(0, 10000000000000, t.limit)
+        + outside(0, 0, t.cede)
+        + outside(0, 0, t.capacity)
+}
+
+// How many of a treaty's numbers are outside their range.
+pub fn treaty_outside(t: Treaty) -> u64
+    ensures { λ r. ⌜ r ≡ treatyOutside t ⌝ }
+{
+    let kind = t.kind;
+    match kind {
+        treaty::QUOTA_SHARE => quota_outside(t),
+        treaty::SURPLUS => surplus_outside(t),
+        _ => 1,
+    }
+}
+
+// How many of a layer's numbers are outside their range.
+pub fn terms_outside(l: Terms) -> u64
+    ensures { λ r. ⌜ r ≡ termsOutside l ⌝ }
+{
+    outside(0, 10000000000000, l.attachment)
+        + outside(1, 10000000000000, l.limit)
+        + outside(0, 1000000000000000, l.deductible)
+        + outside(0, 20, l.reinstatements)
+        + outside(0, 20000, l.rate)
+        + outside(0, 1000000000000, l.premium)
+        + outside(0, 10000, l.placed)
+}
+
+// How many numbers of a treaty's place are not 0.
+pub fn treaty_not_zero(t: Treaty) -> u64
+    ensures { λ r. ⌜ r ≡ treatyNotZero t ⌝ }
+{
+    outside(0, 0, t.kind)
+        + outside(0, 0, t.number)
+        + outside(0, 0, t.cede)
+        + outside(0, 0, t.capacity)
+        + outside(0, 0, t.retention)
+        + outside(0, 0, t.lines)
+        + outside(0, 0, t.limit)
+}
+
+// How many numbers of a layer's place are not 0.
+pub fn terms_not_zero(l: Terms) -> u64
+    ensures { λ r. ⌜ r ≡ termsNotZero l ⌝ }
+{
+    outside(0, 0, l.attachment)
+        + outside(0, 0, l.limit)
+        + outside(0, 0, l.deductible)
+        + outside(0, 0, l.reinstatements)
+        + outside(0, 0, l.rate)
+        + outside(0, 0, l.premium)
+        + outside(0, 0, l.placed)
+}

@@ -1,0 +1,147 @@
+// Faults 3, 4 and 5 of a table's line that is one of the four forms.
+ghost use mathlib.Core.Path.{_≡_};
+ghost use Prim.Native.Nat.{_≤_};
+ghost use Rattle.programme.specs.Contracts.{noContracts};
+ghost use Rattle.programme.specs.Rules.{treatyFault, layerFault, faultAfter};
+ghost use Rattle.programme.specs.Rules.{progressOf};
+ghost use Rattle.programme.specs.LineByLine.{placeAfter, progressAfter, nextOf, EightAtMost};
+use crate::contract::Contract;
+use crate::range;
+use layer::terms::Terms;
+use treaty::Treaty;
+
+// How many of a kind stand before a line, and the last one's number or end of band, 0 without one.
+pub struct Last {
+    pub count: usize,
+    pub figure: u64,
+}
+
+// What stands before a line.
+pub struct Progress {
+    pub treaties: Last,
+    pub risk: Last,
+    pub cat: Last,
+}
+
+// The fault of a treaty after the number `before`, with `later` contracts of later kinds before it, or 0.
+fn treaty_fault(later: usize, before: u64, t: Treaty) -> u64
+    ensures { λ r. ⌜ r ≡ treatyFault later before t ⌝ }
+{
+    if 0 < range::treaty_outside(t) {
+        return 3;
+    }
+    if 0 < later {
+        return 4;
+    }
+    if t.number <= before {
+        return 4;
+    }
+    0
+}
+
+// The fault of a layer after others of its tier, or 0.
+fn layer_fault(later: usize, before: Last, l: Terms) -> u64
+    ensures { λ r. ⌜ r ≡ layerFault later before l ⌝ }
+{
+    if 0 < range::terms_outside(l) {
+        return 3;
+    }
+    if 0 < later {
+        return 4;
+    }
+    if 8 <= before.count {
+        return 4;
+    }
+    if l.attachment < before.figure {
+        return 5;
+    }
+    0
+}
+
+impl Last {
+    // One more of the kind, with its figure.
+    fn next(self, figure: u64) -> Last
+        requires { ⌜ self .count ≤ 8 ⌝ }
+        ensures { λ r. ⌜ r ≡ nextOf self figure ⌝ }
+    {
+        Last {
+            count: self.count + 1,
+            figure,
+        }
+    }
+}
+
+impl Progress {
+    // Before the first line.
+    pub fn first() -> Progress
+        ensures { λ r. ⌜ r ≡ progressOf noContracts ⌝ }
+    {
+        let none = Last {
+            count: 0,
+            figure: 0,
+        };
+        Progress {
+            treaties: none,
+            risk: none,
+            cat: none,
+        }
+    }
+
+    // The fault of the next line's contract, or 0.
+    pub fn fault(self, contract: Contract) -> u64
+        requires { ⌜ EightAtMost self ⌝ }
+        ensures { λ r. ⌜ r ≡ faultAfter self contract ⌝ }
+    {
+        let risk = self.risk;
+        let cat = self.cat;
+        match contract {
+            Contract::Proportional(t) => {
+                let treaties = self.treaties;
+                treaty_fault(risk.count + cat.count, treaties.figure, t)
+            }
+            Contract::Risk(l) => layer_fault(cat.count, risk, l),
+            Contract::Cat(l) => layer_fault(0, cat, l),
+        }
+    }
+
+    // The place of the next line's contract among its kind.
+    pub fn place(self, contract: Contract) -> usize
+        ensures { λ r. ⌜ r ≡ placeAfter self contract ⌝ }
+    {
+        let treaties = self.treaties;
+        let risk = self.risk;
+        let cat = self.cat;
+        match contract {
+            Contract::Proportional(_) => treaties.count,
+            Contract::Risk(_) => risk.count,
+            Contract::Cat(_) => cat.count,
+        }
+    }
+
+    // What stands before the line after a contract's that is without fault.
+    pub fn after(self, contract: Contract) -> Progress
+        requires { ⌜ EightAtMost self × (faultAfter self contract ≡ 0) ⌝ }
+        ensures { λ r. ⌜ r ≡ progressAfter self contract ⌝ }
+    {
+        let treaties = self.treaties;
+        let risk = self.risk;
+        let cat = self.cat;
+        match contract {
+            Contract::Proportional(t) => Progress {
+                treaties: treaties.next(t.number),
+                risk,
+                cat,
+            },
+            Contract::Risk(l) => Progress {
+                treaties,
+                risk: risk.next(l.attachment + l.limit),
+                cat,
+            },
+            Contract::Cat(l) => Progress {
+                treaties,
+                risk,
+                cat: cat.next(l.attachment + l.limit),
+            },
+        }
+    }
+}
