@@ -1,0 +1,143 @@
+// A reading case's line: refusal and line, the three counts, the numbers of every place in use, and `rest`, which
+// joins the bits of all numbers in the other places, so that 0 says that each of them is 0. A refused text has no
+// place in use, so its `rest` is that of every place.
+ghost use Prim.Native.Nat.{_≤_};
+ghost use lib.ListN.{length};
+use layer::terms::Terms;
+use libc::STDOUT_FILENO;
+use programme::contract::Layers;
+use programme::contract::Treaties;
+use treaty::Treaty;
+
+pub fn words(text: &[u8]) {
+    io::write_all(STDOUT_FILENO, text);
+}
+
+pub fn number(n: u64) {
+    words(b" ");
+    io::print_decimal(STDOUT_FILENO, n);
+}
+
+// [kind T cede capacity retain lines event]
+fn treaty_place(t: Treaty) {
+    words(b" [");
+    io::print_decimal(STDOUT_FILENO, t.kind);
+    number(t.number);
+    number(t.cede);
+    number(t.capacity);
+    number(t.retention);
+    number(t.lines);
+    number(t.limit);
+    words(b"]");
+}
+
+// [attachment limit deduct K Q premium placed]
+fn layer_place(l: Terms) {
+    words(b" [");
+    io::print_decimal(STDOUT_FILENO, l.attachment);
+    number(l.limit);
+    number(l.deductible);
+    number(l.reinstatements);
+    number(l.rate);
+    number(l.premium);
+    number(l.placed);
+    words(b"]");
+}
+
+fn treaty_bits(t: Treaty) -> u64 {
+    t.kind | t.number | t.cede | t.capacity | t.retention | t.lines | t.limit
+}
+
+fn layer_bits(l: Terms) -> u64 {
+    l.attachment | l.limit | l.deductible | l.reinstatements | l.rate | l.premium | l.placed
+}
+
+// Shows the treaties in use and returns the bits of the other places.
+fn treaty_places(treaties: Treaties) -> u64 {
+    let count = treaties.count;
+    let mut rest: u64 = 0;
+    let mut i: usize = 0;
+    while i < 8 {
+        let t = treaties.places[i];
+        if i < count {
+            treaty_place(t);
+        } else {
+            rest = rest | treaty_bits(t);
+        }
+        i += 1;
+    }
+    rest
+}
+
+// The same for one tier.
+fn layer_places(layers: Layers) -> u64 {
+    let count = layers.count;
+    let mut rest: u64 = 0;
+    let mut i: usize = 0;
+    while i < 8 {
+        let l = layers.places[i];
+        if i < count {
+            layer_place(l);
+        } else {
+            rest = rest | layer_bits(l);
+        }
+        i += 1;
+    }
+    rest
+}
+
+// Reads a text and shows what reading answers.
+pub fn case(name: &[u8], text: &[u8]) {
+    let reading = programme::read(text);
+    let programme = reading.programme;
+    let treaties = programme.treaties;
+    let risk = programme.risk;
+    let cat = programme.cat;
+    words(name);
+    words(b":");
+    number(reading.refusal);
+    number(reading.line);
+    words(b" counts");
+    number(treaties.count as u64);
+    number(risk.count as u64);
+    number(cat.count as u64);
+    let first = treaty_places(treaties);
+    let second = layer_places(risk);
+    let third = layer_places(cat);
+    words(b" rest");
+    number(first | second | third);
+    words(b"\n");
+}
+
+// Where the next bar stands, or the end of the list.
+fn bar(list: &[u8], from: usize) -> usize
+    requires { ⌜ from ≤ length (now list) ⌝ }
+    ensures { λ r. ⌜ (from ≤ r) × (r ≤ length (now (list .entry))) ⌝ }
+{
+    let mut i = from;
+    while i < list.len() {
+        if list[i] == b'|' {
+            return i;
+        }
+        i += 1;
+    }
+    i
+}
+
+// Shows the cases of a list: a name, a bar, its text, a bar before the next name. No name and no text has a bar.
+pub fn texts(list: &[u8]) {
+    let mut at: usize = 0;
+    while at < list.len() {
+        let middle = bar(list, at);
+        if middle == list.len() {
+            return;
+        }
+        let from = middle + 1;
+        let end = bar(list, from);
+        case(&list[at..middle], &list[from..end]);
+        if end == list.len() {
+            return;
+        }
+        at = end + 1;
+    }
+}
