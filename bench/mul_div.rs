@@ -1,5 +1,8 @@
 // Product-and-divide against Rust's 128-bit product and division: the same results, and how many times the time.
 // `bash bench/run` builds and runs it. Nothing here is part of the gate.
+mod random;
+
+use random::Random;
 use std::hint::black_box;
 use std::time::Instant;
 
@@ -26,21 +29,7 @@ extern "C" fn rust(a: u64, b: u64, d: u64) -> u64 {
     (a as u128 * b as u128 / d as u128) as u64
 }
 
-struct Random(u64);
-
 impl Random {
-    fn next(&mut self) -> u64 {
-        self.0 ^= self.0 << 13;
-        self.0 ^= self.0 >> 7;
-        self.0 ^= self.0 << 17;
-        self.0
-    }
-
-    // From low to high, both included.
-    fn between(&mut self, low: u64, high: u64) -> u64 {
-        low + self.next() % (high - low + 1)
-    }
-
     // The same with every length of number alike.
     fn sized(&mut self, low: u64, high: u64) -> u64 {
         let bits = self.between(0, 63 - high.leading_zeros() as u64);

@@ -1,5 +1,8 @@
 // Reading and writing a treaty table against a plain Rust reader and writer: the same answers, and how many times the
 // time. `bash bench/run` builds and runs it. Nothing here is part of the gate.
+mod random;
+
+use random::Random;
 use std::fmt::Write;
 use std::hint::black_box;
 use std::time::Instant;
@@ -286,20 +289,7 @@ fn plain_write(p: &Programme, buffer: &mut [u8]) -> Answer {
     Answer { refusal: 0, number }
 }
 
-struct Random(u64);
-
 impl Random {
-    fn next(&mut self) -> u64 {
-        self.0 ^= self.0 << 13;
-        self.0 ^= self.0 >> 7;
-        self.0 ^= self.0 << 17;
-        self.0
-    }
-
-    fn between(&mut self, low: u64, high: u64) -> u64 {
-        low + self.next() % (high - low + 1)
-    }
-
     fn tier(&mut self, count: usize) -> Layers {
         let mut tier = Layers { count, ..Layers::default() };
         let mut end = self.between(0, 1_000_000);
