@@ -26,7 +26,7 @@ use Rattle.programme.specs.Valid.{validTreaties, validLayers, valid}
 use Rattle.programme.proofs.Bounds.{within, treaty-in-range}
 use Rattle.programme.proofs.Places.{places-length}
 use Rattle.programme.proofs.Tests.{treaties-tested, layers-tested}
-use Rattle.programme.proofs.Tables.{places-tell, treaties-tell, layers-tell, valid-tells}
+use Rattle.programme.proofs.Validity.{places-tell, treaties-tell, layers-tell, valid-tells}
 
 -- Each kind keeps to its order, and no tier has more than eight layers. There are no more than eight treaties either,
 -- since their numbers T go from 1 to 8 and rise.

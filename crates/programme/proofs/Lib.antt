@@ -6,6 +6,7 @@ pub mod Tests
 pub mod LineKinds
 pub mod Lines
 pub mod Tables
+pub mod Validity
 pub mod Writes
 pub mod Lawful
 pub mod TextRead

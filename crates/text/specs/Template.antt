@@ -13,6 +13,7 @@ use Rattle.text.specs.declared.template.Place.the-variants.{At, Nowhere}
 use Rattle.text.specs.declared.template.Matched.{Matched}
 use Rattle.text.specs.declared.template.Numbers.{Numbers}
 
+-- whether a byte of a template is a number's place
 unfoldable pub capital : ℕ → Bool
 capital b = leb 65 b && leb b 90
 
@@ -64,13 +65,15 @@ wholeOf (some (ns, b ∷ s)) = none
 unfoldable pub lineNumbers : List ℕ → List ℕ → Option (List ℕ)
 lineNumbers t s = wholeOf (matched [] t s)
 
--- the answer: whether it is, and its numbers
+-- the answer where it is not
 abbrev pub noNumbers : Numbers
 noNumbers = record { found = false; values = eight [] }
 
+-- the answer: whether it is, and its numbers
 abbrev pub numbersFrom : Option (List ℕ) → Numbers
 numbersFrom none = noNumbers
 numbersFrom (some ns) = record { found = true; values = eight ns }
 
+-- what a whole line is by a template
 abbrev pub numbersOf : List ℕ → List ℕ → Numbers
 numbersOf t s = numbersFrom (lineNumbers t s)

@@ -3,25 +3,26 @@
 use borrow.Author.Needs.{needs}
 use Rattle.text.specs.Template.{capital, holes}
 use Rattle.programme.proofs.Tables as law
+use Rattle.programme.proofs.Validity as valid
 use Rattle.programme.proofs.print.put_table.Statement.{statement}
 use Rattle.programme.proofs.print.put_table.Tie as tie
 
 put-treaties-requires : tie.Need-put-treaties-requires
-put-treaties-requires c κs = search (law.few-treaties, needs)
+put-treaties-requires c κs = search (valid.few-treaties, needs)
 
 slice-aggregate-put-layers : tie.Need-slice-aggregate-put-layers
 slice-aggregate-put-layers c = search needs
 
 put-layers-requires : tie.Need-put-layers-requires
 unfolding holes capital
-put-layers-requires c κs = search (law.few-risk, needs)
+put-layers-requires c κs = search (valid.few-risk, needs)
 
 slice-aggregate-put-layers-2 : tie.Need-slice-aggregate-put-layers-2
 slice-aggregate-put-layers-2 c = search needs
 
 put-layers-requires-2 : tie.Need-put-layers-requires-2
 unfolding holes capital
-put-layers-requires-2 c κs = search (law.few-cat, needs)
+put-layers-requires-2 c κs = search (valid.few-cat, needs)
 
 same-length : tie.Need-same-length
 same-length c = search needs
