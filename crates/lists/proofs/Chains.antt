@@ -1,4 +1,4 @@
--- Laws of tests along a list: one element more at its end, and a pass over it in place order.
+-- Laws of tests along a list: more elements at its end, and a pass over it in place order.
 -- Assumes nothing.
 use mathlib.Core.Path.{_≡_, refl, ap, sym, _∙_}
 use mathlib.Core.Bool.{Bool, true, false, _&&_}
@@ -24,10 +24,14 @@ both true b e = (refl, e)
 both false b e = let z : _≡_ {A = ℕ} 0 1 = cc in absurd (omega arith)
 
 module _ {A : Type 0} (figure : A → ℕ) where
+  -- the last element of two lists put together
+  pub last-append : (n : ℕ) (xs ys : List A) → lastBy figure n (xs ++ ys) ≡ lastBy figure (lastBy figure n xs) ys
+  last-append n [] ys = refl
+  last-append n (x ∷ xs) ys = last-append (figure x) xs ys
+
   -- the last element is the one put at the end
   pub last-snoc : (n : ℕ) (xs : List A) (x : A) → lastBy figure n (xs ++ (x ∷ [])) ≡ figure x
-  last-snoc n [] x = refl
-  last-snoc n (y ∷ xs) x = last-snoc (figure y) xs x
+  last-snoc n xs x = last-append n xs (x ∷ [])
 
   module _ (passes : ℕ → A → Bool) where
     -- the one put at the end is tested against the last of the others

@@ -1,9 +1,11 @@
--- Laws of a fact of each element: of two lists put together, of a list mapped, and of a list that passes tests.
+-- Laws of a fact of each element: of two lists put together, of a list of one element repeated, of a list mapped, and
+-- of a list that passes tests.
 -- Assumes nothing.
 use mathlib.Core.Path.{_≡_}
 use mathlib.Core.Bool.{Bool, true}
 use mathlib.Core.List.{List, [], _∷_, _++_, map}
-use Prim.Native.Nat.{ℕ}
+use Prim.Native.Nat.{ℕ, zero, suc}
+use lib.ListN.{replicate}
 use Rattle.lists.specs.Each.{Each}
 use Rattle.lists.specs.Chains.{chained, every}
 use Rattle.lists.proofs.Chains.{both}
@@ -17,6 +19,10 @@ module _ {A : Type 0} (P : A → Type 0) where
   pub each-of : ((x : A) → P x) → (xs : List A) → Each P xs
   each-of f [] = tt
   each-of f (x ∷ xs) = (f x, each-of f xs)
+
+  pub each-replicate : (x : A) → P x → (n : ℕ) → Each P (replicate n x)
+  each-replicate x p zero = tt
+  each-replicate x p (suc n) = (p, each-replicate x p n)
 
   pub each-map : {B : Type 0} (f : B → A) (xs : List B) → Each (λ (x : B). P (f x)) xs → Each P (map f xs)
   each-map f [] e = tt

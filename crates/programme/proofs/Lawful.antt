@@ -3,15 +3,16 @@
 use mathlib.Core.Path.{_≡_, refl, sym}
 use mathlib.Core.Bool.{Bool, true}
 use mathlib.Core.List.{List, [], _∷_}
-use Prim.Native.Nat.{ℕ, zero, suc, _+_, _-_, _≤_, _<_, zero-le}
+use Prim.Native.Nat.{ℕ, _+_, _-_, _≤_, _<_, zero-le}
 use native.Mathlib.Omega.{arith}
 use borrow.Author.Tests.{eqb-true, leb-true, ltb-true}
 use lib.Dec.{eqb, leb, ltb}
 use lib.ListN.{length, take, drop, replicate, length-drop, take-append-drop}
-use lib.Seq.{length-take-le, take-append-seam, drop-append-seam}
+use lib.Seq.{length-take-le, take-append-seam}
 use Rattle.lists.specs.Places.{inPlaces}
 use Rattle.lists.specs.Chains.{chained, every}
 use Rattle.lists.proofs.Chains.{both}
+use Rattle.lists.proofs.Places.{rest-unused}
 use Rattle.treaty.specs.declared.Treaty.{Treaty}
 use Rattle.layer.specs.declared.terms.Terms.{Terms}
 use Rattle.programme.specs.declared.contract.Treaties.{Treaties}
@@ -71,15 +72,6 @@ contracts-placed c i = record {
 }
 
 module _ {A : Type 0} (unused : A → Bool) (blank : A) where
-  -- the places after them are unused
-  module _ (z : unused blank ≡ true) where
-    every-blank : (n : ℕ) → true ≡ every unused (replicate n blank)
-    every-blank zero = refl
-    every-blank (suc n) = rw z (every-blank n)
-
-    rest-unused : (xs : List A) → true ≡ every unused (drop (length xs) (inPlaces blank xs))
-    rest-unused xs = rw (drop-append-seam xs (replicate (8 - length xs) blank)) (every-blank (8 - length xs))
-
   -- eight places, n of them used, are those n put into eight places
   module _ (z : (x : A) → unused x ≡ true → x ≡ blank) where
     all-blank : (xs : List A) → every unused xs ≡ true → replicate (length xs) blank ≡ xs
