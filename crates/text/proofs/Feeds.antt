@@ -92,13 +92,15 @@ line-none s at h = rw (drop-of-length-le s h)
 abbrev pub NoFeed : List ℕ → Type 0
 NoFeed l = Each (λ (b : ℕ). b ≡ 10 → ⊥) l
 
+-- a byte that is no line feed begins the first line
+pub byte-begins : (b : ℕ) (s : List ℕ) → (b ≡ 10 → ⊥) → linesOf (b ∷ s) ≡ beginning b (linesOf s)
+unfolding linesOf
+byte-begins b s h = simp (linesOf, ne-eqb b 10 h)
+
 line-and-rest : (l s : List ℕ) → NoFeed l → linesOf (l ++ (10 ∷ s)) ≡ some l ∷ linesOf s
 unfolding linesOf
 line-and-rest [] s z = refl
-line-and-rest (b ∷ l) s z = (unfold linesOf in step) ∙ ap (beginning b) (line-and-rest l s (z .1))
-  where
-    step : linesOf (b ∷ (l ++ (10 ∷ s))) ≡ beginning b (linesOf (l ++ (10 ∷ s)))
-    step = simp (linesOf, ne-eqb b 10 (z .0))
+line-and-rest (b ∷ l) s z = byte-begins b (l ++ (10 ∷ s)) (z .0) ∙ ap (beginning b) (line-and-rest l s (z .1))
 
 -- lines put together are the lines of the text
 pub lines-joined : (ls : List (List ℕ)) → Each NoFeed ls → linesOf (joined ls) ≡ map some ls

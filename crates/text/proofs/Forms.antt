@@ -8,7 +8,7 @@ use mathlib.Core.Path.{_≡_, refl, sym, ap, _∙_}
 use Prim.Native.Nat.{ℕ, suc, _+_, _*_, _/_, _%_, _<_}
 use native.Mathlib.Omega.{arith}
 use borrow.Author.Tests.{lt-ltb, le-ltb, leb-true}
-use lib.Dec.{leb, ltb}
+use lib.Dec.{leb, ltb, lit≤}
 use lib.ListN.{length, drop, getD}
 use Rattle.lists.specs.Each.{Each}
 use Rattle.lists.proofs.Chains.{both}
@@ -251,32 +251,12 @@ filled-append (b ∷ t) ns s s' =
     (λ e. simp (filled, ← e, filled-append t (drop 1 ns) s s', printed-append))
     (λ e. simp (filled, ← e, filled-append t ns s s'))
 
--- A text of many forms: the templates ts with the numbers nss in them, one list for each.
-abbrev pub allFilled : List (List ℕ) → List (List ℕ) → List ℕ
-allFilled [] nss = []
-allFilled (t ∷ ts) nss = filled t (getD nss 0 []) (allFilled ts (drop 1 nss))
-
--- as many numbers for each template as it has places
-abbrev pub Counted : List (List ℕ) → List (List ℕ) → Type 0
-Counted [] [] = Unit {0}
-Counted [] (ns ∷ nss) = ⊥
-Counted (t ∷ ts) [] = ⊥
-Counted (t ∷ ts) (ns ∷ nss) = (length ns ≡ holes t) × Counted ts nss
-
--- a template that can stand after any other
-abbrev pub Apart : List ℕ → Type 0
-Apart t = (parted t ≡ true) × (separated t ≡ true)
-
-all-ended : (ts nss : List (List ℕ)) → Each Apart ts → Ended (allFilled ts nss)
-all-ended [] nss a = tt
-all-ended (t ∷ ts) nss a = parted-ended t (getD nss 0 []) _ (a .0 .0) (all-ended ts (drop 1 nss) (a .1))
-
--- whole texts that are printed alike have the same numbers
-pub texts-injective : (ts nss mss : List (List ℕ)) → Each Apart ts → Counted ts nss → Counted ts mss
-    → allFilled ts nss ≡ allFilled ts mss → nss ≡ mss
-texts-injective [] [] [] a c c' e = refl
-texts-injective (t ∷ ts) (ns ∷ nss) (ms ∷ mss) a c c' e =
-    let tail = all-ended ts nss (a .1) in
-    let tail' = all-ended ts mss (a .1) in
-    let f = filled-injective t ns ms _ _ (a .0 .1) (c .0) (c' .0) tail tail' e in
-    rw (f .0, texts-injective ts nss mss (a .1) (c .1) (c' .1) (f .1))
+-- two lines of one template that begin the same text have the same numbers, and the same text after them
+pub line-injective : (t ns ms s s' : List ℕ) → separated t ≡ true → length ns ≡ holes t → length ms ≡ holes t
+    → filled t ns [] ++ (10 ∷ s) ≡ filled t ms [] ++ (10 ∷ s') → (ns ≡ ms) × (s ≡ s')
+unfolding digitOf
+line-injective t ns ms s s' g l l' e =
+    let f =
+    filled-injective t ns ms (10 ∷ s) (10 ∷ s') g l l' (lit≤ tt) (lit≤ tt)
+    (filled-append t ns [] (10 ∷ s) ∙ e ∙ sym (filled-append t ms [] (10 ∷ s'))) in
+    (f .0, ap (drop 1) (f .1))

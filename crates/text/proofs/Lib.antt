@@ -8,5 +8,6 @@ pub mod Puts
 pub mod Lengths
 pub mod Filling
 pub mod Feeds
+pub mod Cuts
 pub mod Ascii
 pub mod Corners
