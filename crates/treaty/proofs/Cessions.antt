@@ -15,7 +15,7 @@ use Rattle.treaty.specs.declared.Loss.{Loss}
 use Rattle.treaty.specs.Treaty.{coveredPart, cededByQuota, cededBySurplus, cededOf, cededOfLoss}
 
 -- a bound on a choice, each side under its test
-cond-le : (b : Bool) {x y z : ℕ} → (b ≡ true → x ≤ z) → (b ≡ false → y ≤ z) → cond b x y ≤ z
+pub cond-le : (b : Bool) {x y z : ℕ} → (b ≡ true → x ≤ z) → (b ≡ false → y ≤ z) → cond b x y ≤ z
 cond-le true f g = f refl
 cond-le false f g = g refl
 

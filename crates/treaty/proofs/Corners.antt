@@ -6,6 +6,7 @@ use Prim.Native.Nat.{ℕ}
 use Rattle.arith.specs.Round.{rounded}
 use Rattle.treaty.specs.Treaty.{quotaOf, surplusOf, lossOf, cessions}
 use Rattle.treaty.specs.Treaty.{coveredPart, cededByQuota, cededBySurplus, cededOf, cededOfLoss}
+use Rattle.treaty.specs.Losses.{cededIn, cededOfEach}
 
 pub record Corners : Type 0 where
   -- capacity 0 is none: 7,200 bp of 9,999 at any E
@@ -39,9 +40,14 @@ pub record Corners : Type 0 where
   -- E and g at their largest, cede and capacity one below: 10^13 × 9,999 × (10^13 − 1) / (10,000 × 10^13)
   pub largest : cessions (quotaOf 1 9999 9999999999999 0) (lossOf 1 10000000000000 10000000000000 ∷ [])
       ≡ 9998999999999 ∷ []
+  -- two treaties' losses in turn: the second of the quota share passes its event limit of 15,000 by 2,000, and none of
+  -- the surplus counts towards it
+  pub in-turn : cededOfEach (quotaOf 1 4000 0 15000 ∷ surplusOf 3 1000 3 0 ∷ []) []
+      (lossOf 1 9000 11000 ∷ lossOf 3 2500 1700 ∷ lossOf 1 9000 6000 ∷ lossOf 0 700 700 ∷ [])
+      ≡ 4400 ∷ 1020 ∷ 1600 ∷ 0 ∷ []
 
 pub corners : Corners
-unfolding coveredPart cededByQuota cededBySurplus cededOf cededOfLoss rounded
+unfolding coveredPart cededByQuota cededBySurplus cededOf cededOfLoss cededIn rounded
 corners = record {
   capacity-none = λ e. refl;
   capacity-passed = refl;
@@ -58,4 +64,5 @@ corners = record {
   others = refl;
   above-maximum = refl;
   largest = refl;
+  in-turn = refl;
 }

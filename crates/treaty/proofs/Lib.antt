@@ -2,4 +2,5 @@ pub mod Bounds
 pub mod Cases
 pub mod Cessions
 pub mod Own
+pub mod Losses
 pub mod Corners

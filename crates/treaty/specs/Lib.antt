@@ -1,2 +1,3 @@
 pub mod Treaty
+pub mod Losses
 pub mod Ranges
