@@ -1,0 +1,1 @@
+// Events: what an events text says, and the rules that its lines keep to.
