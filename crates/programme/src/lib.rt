@@ -31,7 +31,7 @@ pub struct Reading {
     pub programme: Programme,
 }
 
-// What writing answers: refusal 0 and the length of the text written, or a refusal and its second number.
+// What writing and running answer: refusal 0 and the length of the text written, or a refusal and its second number.
 #[repr(C)]
 pub struct Answer {
     pub refusal: u64,

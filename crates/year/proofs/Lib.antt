@@ -1,0 +1,4 @@
+pub mod StatementLayout
+pub mod Checked
+pub mod Examples
+pub mod Corners

@@ -1,0 +1,68 @@
+-- Document 01, Layers, last paragraph: an event through the treaties, the risk layers and the catastrophe layers.
+-- Assumes nothing.
+use mathlib.Core.List.{List, [], _∷_}
+use Prim.Native.Nat.{ℕ, _+_}
+use Rattle.lists.specs.Sums.{total}
+use Rattle.treaty.specs.declared.Treaty.{Treaty}
+use Rattle.treaty.specs.Losses.{grossOf, cededOfEach, leftOfEach}
+use Rattle.layer.specs.declared.record.Layer.{Layer}
+use Rattle.layer.specs.Tier.{recoveriesBy, chargesBy, leftBy, layersAfter}
+use Rattle.events.specs.Event.{Event}
+use Rattle.year.specs.declared.Amounts.{Amounts}
+use Rattle.year.specs.Tiers.{Tiers}
+
+-- Amounts in turn, each of them the subject of every layer of a tier: the layers after the last.
+abbrev pub layersThrough : List ℕ → List Layer → List Layer
+layersThrough [] ls = ls
+layersThrough (y ∷ ys) ls = layersThrough ys (layersAfter y ls)
+
+-- their recoveries, added
+abbrev pub recoveriesThrough : List ℕ → List Layer → ℕ
+recoveriesThrough [] ls = 0
+recoveriesThrough (y ∷ ys) ls = recoveriesBy y ls + recoveriesThrough ys (layersAfter y ls)
+
+-- their premiums, added
+abbrev pub chargesThrough : List ℕ → List Layer → ℕ
+chargesThrough [] ls = 0
+chargesThrough (y ∷ ys) ls = chargesBy y ls + chargesThrough ys (layersAfter y ls)
+
+-- what the recoveries leave of the amounts, added
+abbrev pub leftThrough : List ℕ → List Layer → ℕ
+leftThrough [] ls = 0
+leftThrough (y ∷ ys) ls = leftBy y ls + leftThrough ys (layersAfter y ls)
+
+-- a year's layers, tier by tier
+abbrev pub Year : Type 0
+Year = Tiers (List Layer)
+
+-- what the treaties leave of an event's losses; U begins again at 0 with each event
+abbrev pub leftByTreaties : List Treaty → Event → List ℕ
+leftByTreaties ts e = leftOfEach ts [] (e .losses)
+
+-- "What these leave, summed over the event": the subject of every catastrophe layer
+unfoldable pub subjectOf : List Treaty → Year → Event → ℕ
+subjectOf ts y e = leftThrough (leftByTreaties ts e) (y .risk)
+
+-- the year after an event
+abbrev pub eventAfter : List Treaty → Year → Event → Year
+eventAfter ts y e = record {
+  risk = layersThrough (leftByTreaties ts e) (y .risk);
+  cat = layersAfter (subjectOf ts y e) (y .cat);
+}
+
+-- What an event comes to. Its net is the subject of the catastrophe layers less their recoveries; premium takes no
+-- part in it.
+abbrev pub eventAmounts : List Treaty → Year → Event → Amounts
+eventAmounts ts y e = record {
+  gross = grossOf (e .losses);
+  ceded = total (cededOfEach ts [] (e .losses));
+  risk = recoveriesThrough (leftByTreaties ts e) (y .risk);
+  cat = recoveriesBy (subjectOf ts y e) (y .cat);
+  net = leftBy (subjectOf ts y e) (y .cat);
+  premium = chargesThrough (leftByTreaties ts e) (y .risk) + chargesBy (subjectOf ts y e) (y .cat);
+}
+
+-- the year after events
+abbrev pub yearAfter : List Treaty → Year → List Event → Year
+yearAfter ts y [] = y
+yearAfter ts y (e ∷ es) = yearAfter ts (eventAfter ts y e) es

@@ -1,0 +1,27 @@
+// The year: standings and amounts. What a run, a ledger and a history are stands in the definitions.
+
+// Each layer's spent amount, in eight places for each tier, and the last day run.
+#[repr(C)]
+pub struct Standing {
+    pub risk: [u64; 8],
+    pub cat: [u64; 8],
+    pub day: u64,
+}
+
+// What opening a year answers: refusal 0 and the fresh standing, or a refusal, its second number and the same.
+#[repr(C)]
+pub struct Opening {
+    pub refusal: u64,
+    pub number: u64,
+    pub standing: Standing,
+}
+
+// What an event, or a whole run, comes to.
+pub struct Amounts {
+    pub gross: u64,
+    pub ceded: u64,
+    pub risk: u64,
+    pub cat: u64,
+    pub net: u64,
+    pub premium: u64,
+}
