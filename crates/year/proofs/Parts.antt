@@ -1,0 +1,46 @@
+-- Events in two parts: the year after them, their lines and their totals.
+-- Assumes nothing.
+use mathlib.Core.Path.{_≡_, refl, ap, _∙_}
+use mathlib.Core.List.{List, [], _∷_, _++_, map, map-append}
+use Prim.Native.Nat.{ℕ, _+_}
+use native.Mathlib.Omega.{arith}
+use Rattle.lists.specs.Sums.{sumOf}
+use Rattle.lists.proofs.Sums.{sum-append}
+use Rattle.treaty.specs.declared.Treaty.{Treaty}
+use Rattle.events.specs.Event.{Event}
+use Rattle.year.specs.declared.Amounts.{Amounts}
+use Rattle.year.specs.Event.{Year, eventAfter, eventAmounts, yearAfter}
+use Rattle.year.specs.Statement.{EventLine, eventLines, added, totals}
+
+module _ (ts : List Treaty) where
+  -- the year after both is the year after the second from the year after the first
+  pub year-append : (y : Year) (es fs : List Event) → yearAfter ts y (es ++ fs) ≡ yearAfter ts (yearAfter ts y es) fs
+  year-append y [] fs = refl
+  year-append y (e ∷ es) fs = year-append (eventAfter ts y e) es fs
+
+  -- the lines of the first, then those of the second from the year after the first
+  pub event-lines-append : (y : Year) (es fs : List Event)
+      → eventLines ts y (es ++ fs) ≡ eventLines ts y es ++ eventLines ts (yearAfter ts y es) fs
+  event-lines-append y [] fs = refl
+  event-lines-append y (e ∷ es) fs =
+      ap (λ (ls : List EventLine). record { day = e .day; amounts = eventAmounts ts y e } ∷ ls)
+      (event-lines-append (eventAfter ts y e) es fs)
+
+-- the totals of both are the totals of each, added
+pub totals-append : (ls ms : List EventLine) → totals (ls ++ ms) ≡ added (totals ls ∷ totals ms ∷ [])
+totals-append ls ms =
+    ap added (map-append (λ (l : EventLine). l .amounts) ls ms)
+    ∙ parts (map (λ (l : EventLine). l .amounts) ls) (map (λ (l : EventLine). l .amounts) ms)
+  where
+    part : (f : Amounts → ℕ) (xs zs : List Amounts) → sumOf f (xs ++ zs) ≡ sumOf f xs + (sumOf f zs + 0)
+    part f xs zs = omega (arith, sum-append f xs zs)
+
+    parts : (xs zs : List Amounts) → added (xs ++ zs) ≡ added (added xs ∷ added zs ∷ [])
+    parts xs zs i = record {
+      gross = part (λ (a : Amounts). a .gross) xs zs i;
+      ceded = part (λ (a : Amounts). a .ceded) xs zs i;
+      risk = part (λ (a : Amounts). a .risk) xs zs i;
+      cat = part (λ (a : Amounts). a .cat) xs zs i;
+      net = part (λ (a : Amounts). a .net) xs zs i;
+      premium = part (λ (a : Amounts). a .premium) xs zs i;
+    }
