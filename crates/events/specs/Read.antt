@@ -1,4 +1,6 @@
--- Document 01, When a call is turned down: reading an events text, refusals 9 to 14.
+-- Document 01, When a call is turned down: "9, events over 65,536 bytes. Then line by line: 10, not an event form ..
+-- The first line at fault from the top decides, and on one line the lowest number. A line that gives no form ends the
+-- reading."
 -- Assumes nothing.
 use mathlib.Core.Bool.{true, false}
 use mathlib.Core.List.{List, [], _∷_}

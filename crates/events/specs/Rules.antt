@@ -1,4 +1,6 @@
--- Document 01, Events and statement, and When a call is turned down: faults 11 to 14 of a line that is an event form.
+-- Document 01, Events and statement: "day D 1 to 366; .. T 0 to 8; E 1 to 10^13; G 0 to 10^13. .. Days never go back";
+-- When a call is turned down: "11, a number outside its range; 12, over 64 losses; 13, a day below the line before ..;
+-- 14, a treaty other than 0 that the table lacks." The faults of a line that is an event form.
 -- Assumes nothing.
 use mathlib.Core.Bool.{Bool, cond, _||_}
 use mathlib.Core.List.{List, [], _∷_}

@@ -1,4 +1,5 @@
--- Document 01, Proportional treaties: the losses of one event in turn through the treaties of a table.
+-- Document 01, Proportional treaties: "Within one event and one treaty, let U be the sum of the earlier g."; "What is
+-- left of g goes to the risk layers." The losses of one event in turn through the treaties of a table.
 -- Assumes nothing.
 use mathlib.Core.Bool.{cond}
 use mathlib.Core.List.{List, [], _∷_, _++_}

@@ -1,4 +1,6 @@
--- Document 01, Layers, last paragraph: an event through the treaties, the risk layers and the catastrophe layers.
+-- Document 01, Layers, last paragraph: "Each loss in turn, after its treaty, is the subject of every risk layer. What
+-- these leave, summed over the event, is the subject of every catastrophe layer. .. Event net is that sum less the
+-- catastrophe recoveries. Premium takes no part in net."
 -- Assumes nothing.
 use mathlib.Core.List.{List, [], _∷_}
 use Prim.Native.Nat.{ℕ, _+_}

@@ -1,4 +1,7 @@
--- Document 01, When a call is turned down: running.
+-- Document 01, When a call is turned down: "Running, in this order: 6; 8 ..; 9 .. Then line by line .. Then 7,
+-- statement longer than the buffer. The second number is 0 with 6, 8 and 9, the line with 10 to 14, the needed length
+-- with 7. .. All lines are examined before a byte is written or the standing moves. .. A success returns the length of
+-- the text written; the bytes past it are unchanged." A refusal leaves standing and buffer as lent.
 -- Assumes nothing.
 use mathlib.Core.Bool.{true, false}
 use mathlib.Core.List.{List, _++_}
