@@ -18,7 +18,7 @@ use Rattle.programme.proofs.Lawful.{valid-lawful}
 use Rattle.events.specs.Event.{Event, lastDay}
 use Rattle.year.specs.declared.Standing.{Standing}
 use Rattle.year.specs.Tiers.{risk, cat}
-use Rattle.year.specs.Standing.{spentOf, fresh, openOf}
+use Rattle.year.specs.Standing.{spentOf}
 use Rattle.year.specs.Ledger.{Entry, firstEntry, Ledger}
 use Rattle.year.specs.History.{Call, standingOfHistory, eventsOfHistory, ledgerOfHistory, endsOn, spentIn}
 use Rattle.year.proofs.Cutting.{cut, cuts}
@@ -33,19 +33,14 @@ spentPlaces es = inPlaces 0 (take 8 (spentIn es))
 abbrev pub standingTold : (ledger : Ledger) (day : ℕ) → Standing
 standingTold l d = record { risk = spentPlaces (l .risk); cat = spentPlaces (l .cat); day = d }
 
--- histories begin with the standing that opening gives
-pub opened-fresh : (p : Programme) → openOf p .standing ≡ fresh
-unfolding openOf
-opened-fresh p = by-test (valid p) (λ v. simp (openOf, ← v)) (λ v. simp (openOf, ← v))
+-- at most eight layers of a tier
+tier-told : (es : List Entry) (ts : List Terms) → termsOfEntries es ≡ ts → length ts ≤ 8
+    → inPlaces 0 (spentOf (cuts es)) ≡ spentPlaces es
+tier-told es ts e few =
+    let n : length (spentIn es) ≤ 8 = rw length-map (rw (← e, length-map) at few) in
+    rw (map-map (λ (y : Layer). y .spent .0) cut es, take-all 8 (spentIn es) n)
 
 module _ (p : Programme) (h : List Call) where
-  -- a valid programme has at most eight layers a tier
-  tier-told : (es : List Entry) (ts : List Terms) → termsOfEntries es ≡ ts → length ts ≤ 8
-      → inPlaces 0 (spentOf (cuts es)) ≡ spentPlaces es
-  tier-told es ts e few =
-      let n : length (spentIn es) ≤ 8 = rw length-map (rw (← e, length-map) at few) in
-      rw (map-map (λ (y : Layer). y .spent .0) cut es, take-all 8 (spentIn es) n)
-
   by-valid : valid p ≡ true → standingOfHistory p h ≡ standingTold (ledgerOfHistory p h) (endsOn p h)
   by-valid v =
       let c = contractsIn p in

@@ -9,6 +9,7 @@ pub mod Cutting
 pub mod Books
 pub mod Running
 pub mod Following
+pub mod OpenedYear
 pub mod AfterHistory
 pub mod LaterRuns
 pub mod EqualHistories
