@@ -258,9 +258,11 @@ fn plain_text(p: &Programme) -> String {
     let mut s = String::with_capacity(4096);
     for t in &p.treaties.places[..p.treaties.count] {
         if t.kind == 1 {
-            let _ = writeln!(s, "(quota {} (cede {}) (capacity {}) (event {}))", t.number, t.cede, t.capacity, t.limit);
+            let (n, c, a, l) = (t.number, t.cede, t.capacity, t.limit);
+            let _ = writeln!(s, "(quota {n} (cede {c}) (capacity {a}) (event {l}))");
         } else {
-            let _ = writeln!(s, "(surplus {} (retain {}) (lines {}) (event {}))", t.number, t.retention, t.lines, t.limit);
+            let (n, r, k, l) = (t.number, t.retention, t.lines, t.limit);
+            let _ = writeln!(s, "(surplus {n} (retain {r}) (lines {k}) (event {l}))");
         }
     }
     for (name, tier) in [("risk", &p.risk), ("cat", &p.cat)] {
@@ -434,6 +436,7 @@ fn main() {
     }
     for (name, ratios) in ["reading", "writing"].iter().zip(&mut ratios) {
         ratios.sort_by(f64::total_cmp);
-        println!("{name} a full table: {:.2} times plain Rust, from {:.2} to {:.2}", ratios[10], ratios[0], ratios[20]);
+        let (least, median, most) = (ratios[0], ratios[10], ratios[20]);
+        println!("{name} a full table: {median:.2} times plain Rust, from {least:.2} to {most:.2}");
     }
 }
