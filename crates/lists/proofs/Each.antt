@@ -1,11 +1,12 @@
--- Laws of a fact of each element: of two lists put together, of a list of one element repeated, of a list mapped, and
--- of a list that passes tests.
+-- Laws of a fact of each element: of two lists put together, of a list of one element repeated, of one in a place and
+-- after a store, of a list mapped, and of a list that passes tests.
 -- Assumes nothing.
 use mathlib.Core.Path.{_≡_}
 use mathlib.Core.Bool.{Bool, true}
 use mathlib.Core.List.{List, [], _∷_, _++_, map}
-use Prim.Native.Nat.{ℕ, zero, suc}
-use lib.ListN.{replicate}
+use Prim.Native.Nat.{ℕ, zero, suc, _<_}
+use native.Mathlib.Omega.{arith}
+use lib.ListN.{length, getD, set, replicate}
 use Rattle.lists.specs.Each.{Each}
 use Rattle.lists.specs.Chains.{chained, every}
 use Rattle.lists.proofs.Chains.{both}
@@ -23,6 +24,21 @@ module _ {A : Type 0} (P : A → Type 0) where
   pub each-replicate : (x : A) → P x → (n : ℕ) → Each P (replicate n x)
   each-replicate x p zero = tt
   each-replicate x p (suc n) = (p, each-replicate x p n)
+
+  pub each-at : (l : List A) → Each P l → (i : ℕ) (d : A) → i < length l → P (getD l i d)
+  each-at [] e i d h = absurd (omega arith)
+  each-at (x ∷ l) e zero d h = e .0
+  each-at (x ∷ l) e (suc i) d h = each-at l (e .1) i d (omega arith)
+
+  pub each-set : (l : List A) → Each P l → (i : ℕ) (a : A) → P a → Each P (set l i a)
+  each-set [] e i a p = tt
+  each-set (x ∷ l) e zero a p = (p, e .1)
+  each-set (x ∷ l) e (suc i) a p = (e .0, each-set l (e .1) i a p)
+
+  -- what follows from it
+  pub each-so : (Q : A → Type 0) → ((x : A) → P x → Q x) → (l : List A) → Each P l → Each Q l
+  each-so Q f [] e = tt
+  each-so Q f (x ∷ l) e = (f x (e .0), each-so Q f l (e .1))
 
   pub each-map : {B : Type 0} (f : B → A) (xs : List B) → Each (λ (x : B). P (f x)) xs → Each P (map f xs)
   each-map f [] e = tt

@@ -1,3 +1,4 @@
+pub mod Cases
 pub mod Sums
 pub mod Growth
 pub mod Bounds

@@ -1,260 +1,35 @@
--- Tables read, judged and written by the definitions: document 01's lines, and the ends of its rules.
+-- The ends of validity, by the definitions: eight layers of a tier, and a count of nine.
 -- Assumes nothing.
 use mathlib.Core.Path.{_≡_, refl}
 use mathlib.Core.Bool.{true, false}
-use mathlib.Core.List.{List, [], _∷_, _++_, map}
+use mathlib.Core.List.{List, [], _∷_}
 use Prim.Native.Nat.{ℕ}
-use Prim.Native.String.{String}
-use lib.ListN.{replicate}
-use Rattle.text.specs.Bytes.{bytes}
-use Rattle.text.specs.Number.{printedBy, printed, digitOf, readOn, number}
-use Rattle.text.specs.Template.{capital, filled, matched, wholeOf, lineNumbers}
-use Rattle.text.specs.Lines.{linesOf, joined}
-use Rattle.treaty.specs.declared.Treaty.{Treaty}
-use Rattle.treaty.specs.Treaty.{quotaOf, surplusOf}
 use Rattle.layer.specs.declared.terms.Terms.{Terms}
 use Rattle.layer.specs.Layer.{termsOf}
-use Rattle.programme.specs.declared.Reading.{Reading}
 use Rattle.programme.specs.declared.contract.Programme.{Programme}
-use Rattle.programme.specs.Contracts.{Contracts, noContracts, noTreaty, noTerms, programmeOf}
-use Rattle.programme.specs.Ranges.{outside, treatyOutside, termsOutside, treatyNotZero, termsNotZero}
-use Rattle.programme.specs.Forms.{kindOf, formOfKind, formOf, treatyLine}
-use Rattle.programme.specs.Rules.{treatyFault, layerFault}
-use Rattle.programme.specs.Read.{refusedAt, readAs, readFrom, readOf}
+use Rattle.programme.specs.Contracts.{noContracts, programmeOf}
+use Rattle.programme.specs.Ranges.{outside, termsOutside, treatyNotZero, termsNotZero}
 use Rattle.programme.specs.Valid.{validTreaties, validLayers, valid}
-use Rattle.programme.specs.Write.{refused, written, fitted, writeOf}
 
--- the text of some lines, and what it reads to
-abbrev text : List String → List ℕ
-text ls = joined (map bytes ls)
-
-abbrev reading : List String → Reading
-reading ls = readOf (text ls)
-
--- a table with every form, and what it reads to
-abbrev allForms : List String
-allForms =
-    "(quota 2 (cede 4000) (capacity 20000) (event 15000))"
-    ∷ "(surplus 5 (retain 10000) (lines 3) (event 0))"
-    ∷ "(risk (band 50 51) (deduct 7) (back 1 20000 9) (placed 3333))"
-    ∷ "(cat (band 40 60) (deduct 0) (back 20 5000 1000000000000) (placed 7200))" ∷ []
-
-abbrev allContracts : Contracts
-allContracts = record {
-  treaties = quotaOf 2 4000 20000 15000 ∷ surplusOf 5 10000 3 0 ∷ [];
-  risk = termsOf 50 51 7 1 20000 9 3333 ∷ [];
-  cat = termsOf 40 60 0 20 5000 1000000000000 7200 ∷ [];
-}
-
--- the table of document 01's H1
-abbrev sidney : List String
-sidney =
-    "(cat (band 25000000 75000000) (deduct 75000000) (back 0 0 0) (placed 10000))"
-    ∷ "(cat (band 100000000 150000000) (deduct 0) (back 1 5000 75000000) (placed 8000))"
-    ∷ "(cat (band 250000000 150000000) (deduct 0) (back 1 10000 30000000) (placed 7200))" ∷ []
-
-abbrev sidneyContracts : Contracts
-sidneyContracts = record {
-  treaties = [];
-  risk = [];
-  cat = termsOf 25000000 75000000 75000000 0 0 0 10000 ∷ termsOf 100000000 150000000 0 1 5000 75000000 8000
-      ∷ termsOf 250000000 150000000 0 1 10000 30000000 7200 ∷ [];
-}
-
--- eight risk layers, each at the end of the band before
-abbrev eightRisks : List String
-eightRisks =
-    "(risk (band 0 10) (deduct 0) (back 0 0 0) (placed 3333))"
-    ∷ "(risk (band 10 20) (deduct 0) (back 0 0 0) (placed 3333))"
-    ∷ "(risk (band 30 5) (deduct 0) (back 0 0 0) (placed 3333))"
-    ∷ "(risk (band 35 1) (deduct 0) (back 0 0 0) (placed 3333))"
-    ∷ "(risk (band 36 4) (deduct 0) (back 0 0 0) (placed 3333))"
-    ∷ "(risk (band 40 2) (deduct 0) (back 0 0 0) (placed 3333))"
-    ∷ "(risk (band 42 8) (deduct 0) (back 0 0 0) (placed 3333))"
-    ∷ "(risk (band 50 50) (deduct 0) (back 0 0 0) (placed 3333))" ∷ []
-
-abbrev eightTerms : List Terms
+-- eight layers, each at the end of the band before
+abbrev pub eightTerms : List Terms
 eightTerms =
     termsOf 0 10 0 0 0 0 3333 ∷ termsOf 10 20 0 0 0 0 3333 ∷ termsOf 30 5 0 0 0 0 3333 ∷ termsOf 35 1 0 0 0 0 3333
     ∷ termsOf 36 4 0 0 0 0 3333 ∷ termsOf 40 2 0 0 0 0 3333 ∷ termsOf 42 8 0 0 0 0 3333
     ∷ termsOf 50 50 0 0 0 0 3333 ∷ []
 
--- programmes that hold nothing but these places of one kind, n of them used
-abbrev withTreaties : ℕ → List Treaty → Programme
-withTreaties n ts = record {
-  treaties = record { places = ts; count = n };
-  risk = programmeOf noContracts .risk;
-  cat = programmeOf noContracts .cat;
-}
-
-abbrev withRisk : ℕ → List Terms → Programme
+-- a programme that holds nothing but these places of risk layers, n of them used
+abbrev pub withRisk : ℕ → List Terms → Programme
 withRisk n ls = record {
   treaties = programmeOf noContracts .treaties;
   risk = record { places = ls; count = n };
   cat = programmeOf noContracts .cat;
 }
 
-abbrev withCat : ℕ → List Terms → Programme
-withCat n ls = record {
-  treaties = programmeOf noContracts .treaties;
-  risk = programmeOf noContracts .risk;
-  cat = record { places = ls; count = n };
-}
-
--- one place filled, the others unused
-abbrev alone : Terms → List Terms
-alone l = l ∷ replicate 7 noTerms
-
-abbrev oneTreaty : (kind retention : ℕ) → List Treaty
-oneTreaty k r =
-    record { kind = k; number = 1; cede = 4000; capacity = 0; retention = r; lines = 0; limit = 0 }
-    ∷ replicate 7 noTreaty
-
 pub record Corners : Type 0 where
-  pub empty : reading [] ≡ readAs (programmeOf noContracts)
-  pub every-form : reading allForms ≡ readAs (programmeOf allContracts)
-  pub H1 : reading sidney ≡ readAs (programmeOf sidneyContracts)
-  -- 1 and its 0; a text of 8,192 bytes is read
-  pub long : readOf (replicate 8193 10) ≡ refusedAt 1 0
-  pub not-long : readOf (replicate 8192 10) ≡ refusedAt 2 1
-  -- 2: seventeen digits, a leading zero, no line feed, a second line that is none
-  pub seventeen : reading ("(quota 10000000000000000 (cede 0) (capacity 0) (event 0))" ∷ []) ≡ refusedAt 2 1
-  pub leading-zero : reading ("(quota 9 (cede 01) (capacity 0) (event 0))" ∷ []) ≡ refusedAt 2 1
-  pub no-feed : readOf (bytes "(quota 1 (cede 0) (capacity 0) (event 0))") ≡ refusedAt 2 1
-  pub empty-line : reading ("(quota 1 (cede 0) (capacity 0) (event 0))" ∷ "" ∷ []) ≡ refusedAt 2 2
-  -- 3: the ends of T
-  pub number-0 : reading ("(quota 0 (cede 0) (capacity 0) (event 0))" ∷ []) ≡ refusedAt 3 1
-  pub number-9 : reading ("(surplus 9 (retain 0) (lines 0) (event 0))" ∷ []) ≡ refusedAt 3 1
-  pub sixteen-digits : reading ("(quota 1 (cede 9999999999999999) (capacity 0) (event 0))" ∷ []) ≡ refusedAt 3 1
-  -- 4: a treaty after a layer, a risk layer after a cat layer, T not above the one before
-  pub treaty-late :
-      reading ("(cat (band 0 1) (deduct 0) (back 0 0 0) (placed 0))"
-      ∷ "(quota 1 (cede 0) (capacity 0) (event 0))" ∷ [])
-      ≡ refusedAt 4 2
-  pub risk-late :
-      reading ("(cat (band 0 1) (deduct 0) (back 0 0 0) (placed 0))"
-      ∷ "(risk (band 9 1) (deduct 0) (back 0 0 0) (placed 0))" ∷ [])
-      ≡ refusedAt 4 2
-  pub same-number :
-      reading ("(quota 3 (cede 0) (capacity 0) (event 0))"
-      ∷ "(surplus 3 (retain 0) (lines 0) (event 0))" ∷ [])
-      ≡ refusedAt 4 2
-  pub treaty-after-risk :
-      reading ("(risk (band 0 1) (deduct 0) (back 0 0 0) (placed 0))"
-      ∷ "(quota 1 (cede 0) (capacity 0) (event 0))" ∷ [])
-      ≡ refusedAt 4 2
-  pub falling-number :
-      reading ("(quota 5 (cede 0) (capacity 0) (event 0))"
-      ∷ "(surplus 3 (retain 0) (lines 0) (event 0))" ∷ [])
-      ≡ refusedAt 4 2
-  -- eight layers of a tier, and a ninth, at the end of the band before or below it
-  pub eight-layers : reading eightRisks ≡ readAs (withRisk 8 eightTerms)
-  pub ninth-layer :
-      reading (eightRisks ++ ("(risk (band 100 1) (deduct 0) (back 0 0 0) (placed 0))" ∷ [])) ≡ refusedAt 4 9
-  pub ninth-and-overlapping :
-      reading (eightRisks ++ ("(risk (band 99 1) (deduct 0) (back 0 0 0) (placed 0))" ∷ [])) ≡ refusedAt 4 9
-  pub late-and-overlapping :
-      reading ("(risk (band 50 50) (deduct 0) (back 0 0 0) (placed 0))"
-      ∷ "(cat (band 0 1) (deduct 0) (back 0 0 0) (placed 0))"
-      ∷ "(risk (band 99 1) (deduct 0) (back 0 0 0) (placed 0))" ∷ [])
-      ≡ refusedAt 4 3
-  -- 5: bands 50 50 then 100 1 accepted, 50 50 then 99 1 refused
-  pub touching :
-      reading ("(risk (band 50 50) (deduct 0) (back 0 0 0) (placed 0))"
-      ∷ "(risk (band 100 1) (deduct 0) (back 0 0 0) (placed 0))" ∷ [])
-      ≡ readAs (programmeOf (record {
-        treaties = [];
-        risk = termsOf 50 50 0 0 0 0 0 ∷ termsOf 100 1 0 0 0 0 0 ∷ [];
-        cat = [];
-      }))
-  pub overlapping :
-      reading ("(risk (band 50 50) (deduct 0) (back 0 0 0) (placed 0))"
-      ∷ "(risk (band 99 1) (deduct 0) (back 0 0 0) (placed 0))" ∷ [])
-      ≡ refusedAt 5 2
-  -- a risk layer's band does not bind the first cat layer
-  pub other-tier :
-      reading ("(risk (band 50 50) (deduct 0) (back 0 0 0) (placed 0))"
-      ∷ "(cat (band 99 1) (deduct 0) (back 0 0 0) (placed 0))" ∷ [])
-      ≡ readAs (programmeOf (record {
-        treaties = [];
-        risk = termsOf 50 50 0 0 0 0 0 ∷ [];
-        cat = termsOf 99 1 0 0 0 0 0 ∷ [];
-      }))
-  -- the lowest number on one line; the first line from the top
-  pub range-before-order :
-      reading ("(cat (band 0 1) (deduct 0) (back 0 0 0) (placed 0))"
-      ∷ "(quota 9 (cede 0) (capacity 0) (event 0))" ∷ []) ≡ refusedAt 3 2
-  pub first-line : reading ("(quota 9 (cede 0) (capacity 0) (event 0))" ∷ "none" ∷ []) ≡ refusedAt 3 1
-  pub band-before-form :
-      reading ("(cat (band 50 50) (deduct 0) (back 0 0 0) (placed 0))"
-      ∷ "(cat (band 99 1) (deduct 0) (back 0 0 0) (placed 0))"
-      ∷ "none" ∷ [])
-      ≡ refusedAt 5 2
-  -- writing: the text, its length with 7
-  pub writes : writeOf (programmeOf sidneyContracts) 240 ≡ written (text sidney)
-  pub exactly : writeOf (programmeOf allContracts) 235 ≡ written (text allForms)
-  pub one-short : writeOf (programmeOf allContracts) 234 ≡ refused 7 235
-  pub nothing : writeOf (programmeOf noContracts) 0 ≡ written []
-  -- 6: a range, unused places that are not 0, a count of nine, bands, kinds, a term of the other kind
-  pub limit-1 : writeOf (withRisk 1 (alone (termsOf 0 1 0 0 0 0 0))) 0 ≡ refused 7 53
-  pub limit-0 : writeOf (withRisk 1 (alone (termsOf 0 0 0 0 0 0 0))) 0 ≡ refused 6 0
-  pub unused-risk : writeOf (withRisk 0 (alone (termsOf 0 1 0 0 0 0 0))) 1000 ≡ refused 6 0
-  pub unused-cat : writeOf (withCat 0 (alone (termsOf 0 0 0 0 0 0 1))) 1000 ≡ refused 6 0
-  pub unused-treaty : writeOf (withTreaties 0 (oneTreaty 1 0)) 1000 ≡ refused 6 0
   pub eight-used : valid (withRisk 8 eightTerms) ≡ true
   pub nine-used : valid (withRisk 9 eightTerms) ≡ false
-  pub quota-written : writeOf (withTreaties 1 (oneTreaty 1 0)) 0 ≡ refused 7 45
-  pub kind-0 : writeOf (withTreaties 1 (oneTreaty 0 0)) 1000 ≡ refused 6 0
-  pub kind-3 : writeOf (withTreaties 1 (oneTreaty 3 0)) 1000 ≡ refused 6 0
-  pub quota-with-retention : writeOf (withTreaties 1 (oneTreaty 1 1)) 1000 ≡ refused 6 0
-  pub surplus-with-cede : writeOf (withTreaties 1 (oneTreaty 2 0)) 1000 ≡ refused 6 0
 
 pub corners : Corners
-unfolding printedBy printed digitOf readOn number capital filled matched wholeOf lineNumbers linesOf outside
-    treatyOutside termsOutside treatyNotZero termsNotZero kindOf formOfKind formOf treatyLine treatyFault layerFault
-    readFrom readOf validTreaties validLayers valid fitted writeOf
-corners = record {
-  empty = refl;
-  every-form = refl;
-  H1 = refl;
-  long = refl;
-  not-long = refl;
-  seventeen = refl;
-  leading-zero = refl;
-  no-feed = refl;
-  empty-line = refl;
-  number-0 = refl;
-  number-9 = refl;
-  sixteen-digits = refl;
-  treaty-late = refl;
-  risk-late = refl;
-  same-number = refl;
-  treaty-after-risk = refl;
-  falling-number = refl;
-  eight-layers = refl;
-  ninth-layer = refl;
-  ninth-and-overlapping = refl;
-  late-and-overlapping = refl;
-  touching = refl;
-  overlapping = refl;
-  other-tier = refl;
-  range-before-order = refl;
-  first-line = refl;
-  band-before-form = refl;
-  writes = refl;
-  exactly = refl;
-  one-short = refl;
-  nothing = refl;
-  limit-1 = refl;
-  limit-0 = refl;
-  unused-risk = refl;
-  unused-cat = refl;
-  unused-treaty = refl;
-  eight-used = refl;
-  nine-used = refl;
-  quota-written = refl;
-  kind-0 = refl;
-  kind-3 = refl;
-  quota-with-retention = refl;
-  surplus-with-cede = refl;
-}
+unfolding outside termsOutside treatyNotZero termsNotZero validTreaties validLayers valid
+corners = record { eight-used = refl; nine-used = refl }

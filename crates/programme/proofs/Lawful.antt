@@ -157,7 +157,7 @@ lawful-valid c g =
 
 -- a valid programme is the programme of the contracts in it, and they are lawful
 module _ (l : Layers) (e : validLayers l ≡ true) where
-  layers-count : length (layersIn l) ≡ l .count
+  pub layers-count : length (layersIn l) ≡ l .count
   layers-count = used-length termsUnused noTerms unused-terms (l .count) (l .places) (layers-tell l e .0)
 
   layers-placed : layerPlaces (layersIn l) ≡ l

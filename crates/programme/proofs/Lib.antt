@@ -1,16 +1,7 @@
 pub mod Bounds
 pub mod Faults
 pub mod Places
-pub mod LinePass
 pub mod Tests
-pub mod LineKinds
-pub mod Lines
-pub mod Tables
 pub mod Validity
-pub mod Writes
 pub mod Lawful
-pub mod TextRead
-pub mod TableBack
-pub mod RoundTrip
-pub mod SameTable
 pub mod Corners

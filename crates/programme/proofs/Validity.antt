@@ -46,7 +46,7 @@ valid-tells p e =
     (t .0, l .0, l .1)
 
 -- a valid programme has at most eight of each kind
-layers-few : (l : Layers) → validLayers l ≡ true → l .count ≤ 8
+pub layers-few : (l : Layers) → validLayers l ≡ true → l .count ≤ 8
 layers-few l e = places-tell termsUnused (l .count) (l .places) (layers-tell l e .0) .1
 
 module _ (p : Programme) (e : valid p ≡ true) where

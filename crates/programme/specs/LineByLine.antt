@@ -1,16 +1,11 @@
--- What reading keeps from line to line: how many of each kind were read, their last figures, and the places.
+-- What reading keeps from line to line: how many of each kind were read, and their last figures.
 -- Assumes nothing.
-use mathlib.Core.List.{List}
 use Prim.Native.Nat.{ℕ, _+_, _≤_}
-use Rattle.treaty.specs.declared.Treaty.{Treaty}
-use Rattle.layer.specs.declared.terms.Terms.{Terms}
-use Rattle.programme.specs.declared.Reading.{Reading}
 use Rattle.programme.specs.declared.contract.Contract.{Contract}
 use Rattle.programme.specs.declared.contract.Contract.the-variants.{Proportional, Risk, Cat}
 use Rattle.programme.specs.declared.rule.Last.{Last}
 use Rattle.programme.specs.declared.rule.Progress.{Progress}
 use Rattle.programme.specs.Rules.{bandEnd}
-use Rattle.programme.specs.Read.{readAs}
 
 -- how many of a contract's kind stand before it: its place
 abbrev pub placeAfter : Progress → Contract → ℕ
@@ -33,11 +28,3 @@ pub record EightAtMost (p : Progress) : Type 0 where
   pub treaties : p .treaties .count ≤ 8
   pub risk : p .risk .count ≤ 8
   pub cat : p .cat .count ≤ 8
-
--- a success with these places, used as far as the counts tell
-abbrev pub readPlaces : List Treaty → List Terms → List Terms → Progress → Reading
-readPlaces ts rs cs p = readAs (record {
-  treaties = record { places = ts; count = p .treaties .count };
-  risk = record { places = rs; count = p .risk .count };
-  cat = record { places = cs; count = p .cat .count };
-})

@@ -7,7 +7,7 @@ use layer::terms::Terms;
 use treaty::Treaty;
 
 // 1 for a number outside its range, 0 for one within it.
-fn outside(low: u64, high: u64, n: u64) -> u64
+pub fn outside(low: u64, high: u64, n: u64) -> u64
     ensures { λ r. ⌜ (r ≡ outside low high n) × (r ≤ 1) ⌝ }
 {
     if n < low {

@@ -1,12 +1,16 @@
-// A programme read from a typed table, with one place or one count changed.
+// A programme read from a typed table, with one place or one count changed: t, r or c and a treaty's, a risk layer's
+// or a cat layer's place with its numbers, or T, R or C and a count. Most are such that no table text reads to them,
+// and writing refuses them with 6; beside them are the nearest that a text does read to, so that no test refuses too
+// much.
 ghost use Prim.Native.Nat.{_<_};
+use crate::task::Task;
 use layer::terms::Terms;
 use programme::contract::Programme;
 use treaty::Treaty;
 
 // Two treaties, two risk layers and one cat layer; the text is of 296 bytes.
 pub fn base() -> Programme {
-    let reading = programme::read(
+    let reading = table::read(
         b"(quota 1 (cede 3333) (capacity 20000) (event 15000))\n\
         (surplus 4 (retain 10000) (lines 3) (event 0))\n\
         (risk (band 50 60) (deduct 11) (back 2 300 4000) (placed 7200))\n\
@@ -16,41 +20,33 @@ pub fn base() -> Programme {
     reading.programme
 }
 
-// [kind T cede capacity retain lines event]
-pub fn treaty_of(
-    kind: u64,
-    number: u64,
-    cede: u64,
-    capacity: u64,
-    retention: u64,
-    lines: u64,
-    limit: u64,
-) -> Treaty {
+// [kind T cede capacity retain lines event], after the place
+fn treaty_of(v: [u64; 8]) -> Treaty {
     Treaty {
-        kind,
-        number,
-        cede,
-        capacity,
-        retention,
-        lines,
-        limit,
+        kind: v[1],
+        number: v[2],
+        cede: v[3],
+        capacity: v[4],
+        retention: v[5],
+        lines: v[6],
+        limit: v[7],
     }
 }
 
-// [attachment limit deduct K Q premium placed]
-pub fn terms_of(a: u64, l: u64, d: u64, k: u64, q: u64, p: u64, s: u64) -> Terms {
+// [attachment limit deduct K Q premium placed], after the place
+fn terms_of(v: [u64; 8]) -> Terms {
     Terms {
-        attachment: a,
-        limit: l,
-        deductible: d,
-        reinstatements: k,
-        rate: q,
-        premium: p,
-        placed: s,
+        attachment: v[1],
+        limit: v[2],
+        deductible: v[3],
+        reinstatements: v[4],
+        rate: v[5],
+        premium: v[6],
+        placed: v[7],
     }
 }
 
-pub fn with_treaty(programme: Programme, i: usize, place: Treaty) -> Programme
+fn with_treaty(programme: Programme, i: usize, place: Treaty) -> Programme
     requires { ⌜ i < 8 ⌝ }
 {
     let mut changed = programme;
@@ -60,7 +56,7 @@ pub fn with_treaty(programme: Programme, i: usize, place: Treaty) -> Programme
     changed
 }
 
-pub fn with_risk(programme: Programme, i: usize, place: Terms) -> Programme
+fn with_risk(programme: Programme, i: usize, place: Terms) -> Programme
     requires { ⌜ i < 8 ⌝ }
 {
     let mut changed = programme;
@@ -70,7 +66,7 @@ pub fn with_risk(programme: Programme, i: usize, place: Terms) -> Programme
     changed
 }
 
-pub fn with_cat(programme: Programme, i: usize, place: Terms) -> Programme
+fn with_cat(programme: Programme, i: usize, place: Terms) -> Programme
     requires { ⌜ i < 8 ⌝ }
 {
     let mut changed = programme;
@@ -80,7 +76,7 @@ pub fn with_cat(programme: Programme, i: usize, place: Terms) -> Programme
     changed
 }
 
-pub fn treaty_count(programme: Programme, count: usize) -> Programme {
+fn treaty_count(programme: Programme, count: usize) -> Programme {
     let mut changed = programme;
     let mut treaties = programme.treaties;
     treaties.count = count;
@@ -88,7 +84,7 @@ pub fn treaty_count(programme: Programme, count: usize) -> Programme {
     changed
 }
 
-pub fn risk_count(programme: Programme, count: usize) -> Programme {
+fn risk_count(programme: Programme, count: usize) -> Programme {
     let mut changed = programme;
     let mut risk = programme.risk;
     risk.count = count;
@@ -96,10 +92,36 @@ pub fn risk_count(programme: Programme, count: usize) -> Programme {
     changed
 }
 
-pub fn cat_count(programme: Programme, count: usize) -> Programme {
+fn cat_count(programme: Programme, count: usize) -> Programme {
     let mut changed = programme;
     let mut cat = programme.cat;
     cat.count = count;
     changed.cat = cat;
     changed
+}
+
+// One place changed, by its kind's letter.
+fn place_changed(programme: Programme, letter: u8, i: usize, v: [u64; 8]) -> Programme {
+    if 8 <= i {
+        return programme;
+    }
+    match letter {
+        b't' => with_treaty(programme, i, treaty_of(v)),
+        b'r' => with_risk(programme, i, terms_of(v)),
+        b'c' => with_cat(programme, i, terms_of(v)),
+        _ => programme,
+    }
+}
+
+// A programme changed as a task says; another letter changes nothing.
+pub fn changed(programme: Programme, task: Task) -> Programme {
+    let v = task.numbers;
+    let n = v[0] as usize;
+    let letter = task.letter;
+    match letter {
+        b'T' => treaty_count(programme, n),
+        b'R' => risk_count(programme, n),
+        b'C' => cat_count(programme, n),
+        _ => place_changed(programme, letter, n, v),
+    }
 }

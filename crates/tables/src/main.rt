@@ -1,20 +1,20 @@
 // Tables typed by hand, read and written: a line a case, held to an output that is made from document 01 alone.
-// The texts to be read are on standard input, as `show::texts` takes them.
+// The cases are on standard input, as `list` takes them; those with bytes that no text file should hold are in
+// `bytes`.
 use libc::STDIN_FILENO;
 
 mod bytes;
 mod change;
 mod length;
-mod refuse;
+mod list;
 mod show;
+mod task;
 mod write;
 
 fn main() {
-    let mut list = io::large_buffer();
-    let size = io::read_full(STDIN_FILENO, &mut list);
-    show::texts(&list[..size]);
+    let mut input = io::large_buffer();
+    let size = io::read_full(STDIN_FILENO, &mut input);
+    let next = list::cases(&input[..size], 0);
     bytes::cases();
-    length::cases();
-    write::cases();
-    refuse::cases();
+    list::cases(&input[..size], next);
 }

@@ -1,8 +1,6 @@
 // A reading case's line: refusal and line, the three counts, the numbers of every place in use, and `rest`, which
 // joins the bits of all numbers in the other places, so that 0 says that each of them is 0. A refused text has no
 // place in use, so its `rest` is that of every place.
-ghost use Prim.Native.Nat.{_≤_};
-ghost use lib.ListN.{length};
 use layer::terms::Terms;
 use libc::STDOUT_FILENO;
 use programme::contract::Layers;
@@ -87,8 +85,8 @@ fn layer_places(layers: Layers) -> u64 {
 }
 
 // Reads a text and shows what reading answers.
-pub fn case(name: &[u8], text: &[u8]) {
-    let reading = programme::read(text);
+pub fn reading(name: &[u8], text: &[u8]) {
+    let reading = table::read(text);
     let programme = reading.programme;
     let treaties = programme.treaties;
     let risk = programme.risk;
@@ -107,37 +105,4 @@ pub fn case(name: &[u8], text: &[u8]) {
     words(b" rest");
     number(first | second | third);
     words(b"\n");
-}
-
-// Where the next bar stands, or the end of the list.
-fn bar(list: &[u8], from: usize) -> usize
-    requires { ⌜ from ≤ length (now list) ⌝ }
-    ensures { λ r. ⌜ (from ≤ r) × (r ≤ length (now (list .entry))) ⌝ }
-{
-    let mut i = from;
-    while i < list.len() {
-        if list[i] == b'|' {
-            return i;
-        }
-        i += 1;
-    }
-    i
-}
-
-// Shows the cases of a list: a name, a bar, its text, a bar before the next name. No name and no text has a bar.
-pub fn texts(list: &[u8]) {
-    let mut at: usize = 0;
-    while at < list.len() {
-        let middle = bar(list, at);
-        if middle == list.len() {
-            return;
-        }
-        let from = middle + 1;
-        let end = bar(list, from);
-        case(&list[at..middle], &list[from..end]);
-        if end == list.len() {
-            return;
-        }
-        at = end + 1;
-    }
 }

@@ -11,10 +11,10 @@ use lib.ListN.{drop}
 use Rattle.lists.specs.Each.{Each}
 use Rattle.lists.specs.Chains.{every}
 use Rattle.lists.proofs.Each.{each-append, each-every}
+use Rattle.lists.proofs.Cases.{by-test}
 use Rattle.text.specs.Number.{printed}
 use Rattle.text.specs.Template.{capital, filled}
 use Rattle.text.specs.Lines.{joined}
-use Rattle.text.proofs.Cases.{by-test}
 use Rattle.text.proofs.Printing.{by-digits, printed-one, printed-more}
 
 abbrev pub Byte : ℕ → Type 0

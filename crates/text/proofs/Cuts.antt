@@ -6,8 +6,8 @@ use mathlib.Core.List.{List, [], _∷_, _++_}
 use mathlib.Core.Option.{Option, none, some}
 use Prim.Native.Nat.{ℕ}
 use borrow.Author.Tests.{eq-eqb}
+use Rattle.lists.proofs.Cases.{by-eq}
 use Rattle.text.specs.Lines.{beginning, linesOf}
-use Rattle.text.proofs.Cases.{by-eq}
 use Rattle.text.proofs.Feeds.{byte-begins}
 
 -- a text of whole lines: it is empty, or its last byte is a line feed

@@ -9,9 +9,9 @@ use native.Mathlib.Omega.{arith}
 use borrow.Author.Tests.{lt-ltb, le-ltb, le-leb, lt-leb}
 use lib.ListN.{length, drop, getD, length-drop, drop-of-length-le}
 use lib.Seq.{drop-cons}
+use Rattle.lists.proofs.Cases.{by-lt}
 use Rattle.text.specs.Number.{printed, digitOf, readOn, number, numberAt}
 use Rattle.text.specs.declared.number.Number.the-variants.{Value, Nothing}
-use Rattle.text.proofs.Cases.{by-lt}
 use Rattle.text.proofs.Printing.{printed-one, printed-more, by-digits}
 
 -- a number of at most sixteen digits

@@ -12,10 +12,10 @@ use lib.Dec.{eqb}
 use lib.ListN.{length, take, drop, getD, length-drop, drop-of-length-le}
 use lib.Seq.{drop-cons, drop-drop}
 use Rattle.lists.specs.Each.{Each}
+use Rattle.lists.proofs.Cases.{by-test, by-eq}
 use Rattle.text.specs.Number.{printed}
 use Rattle.text.specs.Template.{capital, filled}
 use Rattle.text.specs.Lines.{beginning, linesOf, joined, upToFeed, lineEnd}
-use Rattle.text.proofs.Cases.{by-test, by-eq}
 use Rattle.text.proofs.Printing.{by-digits, printed-one, printed-more}
 
 -- the search for the end e of a line, at the place i of the text s

@@ -12,9 +12,9 @@ use lib.Dec.{leb, ltb, lit≤}
 use lib.ListN.{length, drop, getD}
 use Rattle.lists.specs.Each.{Each}
 use Rattle.lists.proofs.Chains.{both}
+use Rattle.lists.proofs.Cases.{by-test, by-eq}
 use Rattle.text.specs.Number.{printed, digitOf, number}
 use Rattle.text.specs.Template.{capital, holes, filled, matched, wholeOf, lineNumbers}
-use Rattle.text.proofs.Cases.{by-test, by-eq}
 use Rattle.text.proofs.Printing.{by-digits, printed-one, printed-more, printed-append}
 use Rattle.text.proofs.Digits.{Readable, Ended, digit-of, number-printed, number-read}
 use Rattle.text.proofs.Templates.{holes-number, holes-byte, filled-number, filled-byte}

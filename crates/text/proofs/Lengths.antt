@@ -8,10 +8,10 @@ use native.Mathlib.Omega.{arith}
 use lib.Dec.{lit<}
 use lib.ListN.{length, drop, getD, length-append}
 use Rattle.lists.specs.Each.{Each}
+use Rattle.lists.proofs.Cases.{by-lt, by-test}
 use Rattle.text.specs.Buffer.{Put}
 use Rattle.text.specs.Number.{printed, digits}
 use Rattle.text.specs.Template.{capital, holes, filled}
-use Rattle.text.proofs.Cases.{by-lt, by-test}
 use Rattle.text.proofs.Digits.{Readable}
 use Rattle.text.proofs.Printing.{printed-one, printed-more, printed-append}
 use Rattle.text.proofs.Templates.{holes-number, holes-byte}

@@ -1,10 +1,10 @@
-pub mod Cases
 pub mod Printing
 pub mod Digits
 pub mod Templates
 pub mod Forms
 pub mod Matching
 pub mod Puts
+pub mod Passes
 pub mod Lengths
 pub mod Filling
 pub mod Feeds

@@ -6,8 +6,8 @@ use Prim.Native.Nat.{ℕ, zero, suc, _+_, _/_, _%_, _≤_, _<_}
 use native.Mathlib.Nat.{le-refl}
 use native.Mathlib.Omega.{arith}
 use borrow.Author.Tests.{lt-ltb, le-ltb}
+use Rattle.lists.proofs.Cases.{by-lt}
 use Rattle.text.specs.Number.{printedBy, printed}
-use Rattle.text.proofs.Cases.{by-lt}
 
 -- as many steps as the number itself are enough
 enough : (k j n : ℕ) (s : List ℕ) → n ≤ k → n ≤ j → printedBy k n s ≡ printedBy j n s

@@ -63,6 +63,11 @@ pub put-whole : {d d′ : List ℕ} {next : ℕ} {w : List ℕ} → length w ≤
     → d′ ≡ w ++ drop (length w) d
 put-whole {d} {w = w} h p = p .bytes ∙ sets-eq w d 0 (omega arith) ∙ rw zero-add
 
+-- a part of no bytes, put back before the others
+pub no-bytes : (e d : List ℕ) → length e ≡ 0 → e ++ d ≡ d
+no-bytes [] d h = refl
+no-bytes (x ∷ e) d h = absurd (omega arith)
+
 -- The text w is put into the buffer d from the place `at` on, item by item: the buffer is d′ now, and `rest` is still
 -- to be put from the place `next` on. Whoever puts the rest has put the whole.
 pub record Putting (d : List ℕ) (at : ℕ) (w d′ : List ℕ) (next : ℕ) (rest : List ℕ) : Type 0 where

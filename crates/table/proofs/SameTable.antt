@@ -1,0 +1,59 @@
+-- Document 01, The table text: reading and writing give the same table back.
+-- Assumes nothing.
+use mathlib.Core.Path.{_≡_, sym, ap, _∙_}
+use mathlib.Core.Bool.{true}
+use mathlib.Core.List.{List}
+use Prim.Native.Nat.{ℕ, _≤_}
+use native.Mathlib.Omega.{arith}
+use borrow.Author.Tests.{lt-ltb, le-ltb}
+use lib.ListN.{length}
+use Rattle.lists.specs.Each.{Each}
+use Rattle.lists.proofs.Cases.{by-test, by-lt}
+use Rattle.text.proofs.Ascii.{Byte}
+use Rattle.programme.specs.declared.contract.Programme.{Programme}
+use Rattle.programme.specs.Valid.{valid}
+use Rattle.table.specs.declared.Reading.{Reading}
+use Rattle.table.specs.Read.{readAs, readOf}
+use Rattle.table.specs.Write.{textOf, written, fitted, writeOf}
+use Rattle.table.proofs.RoundTrip.{read-valid, read-written, written-read, text-bytes}
+
+-- some text of bytes is read as the programme p
+pub record SomeText (p : Programme) : Type 0 where
+  pub text : List ℕ
+  pub bytes : Each Byte text
+  pub reads : readOf text ≡ readAs p
+
+-- the valid programmes are exactly those that some text is read as
+pub valid-exactly : (p : Programme) → ((valid p ≡ true) → SomeText p) × (SomeText p → valid p ≡ true)
+valid-exactly p = (
+  λ e. record { text = textOf p; bytes = text-bytes p; reads = written-read p e },
+  λ t. read-valid (t .text) p (t .reads),
+)
+
+-- a text that is read as a programme is what writing the programme gives, byte for byte, where the buffer has the room
+pub read-then-write : (s : List ℕ) (p : Programme) (room : ℕ) → readOf s ≡ readAs p → length s ≤ room
+    → writeOf p room ≡ written s
+unfolding writeOf fitted
+read-then-write s p room e h =
+    let w = read-written s p e in
+    let k : length (textOf p) ≤ room = rw w at h in
+    simp (writeOf, read-valid s p e) (simp (fitted, le-ltb _ _ k) (ap written (sym w)))
+
+-- a text that writing a programme gives is read as the programme
+pub write-then-read : (p : Programme) (room : ℕ) (s : List ℕ) → writeOf p room ≡ written s → readOf s ≡ readAs p
+unfolding writeOf fitted
+write-then-read p room s e =
+    by-test (valid p)
+    (λ v. by-lt room (length (textOf p))
+    (λ h. let n : _≡_ {A = ℕ} 0 1 = cc (simp (writeOf, fitted, ← v, lt-ltb _ _ h) at e) in absurd (omega arith))
+    (λ h. let same : written (textOf p) ≡ written s = simp (writeOf, fitted, ← v, le-ltb _ _ h) at e in
+    let text : textOf p ≡ s = cc in
+    rw (← text) (written-read p (sym v))))
+    (λ v. let n : _≡_ {A = ℕ} 0 1 = cc (simp (writeOf, ← v) at e) in absurd (omega arith))
+
+-- valid programmes with the same table text are the same
+pub text-injective : (p q : Programme) → valid p ≡ true → valid q ≡ true → textOf p ≡ textOf q → p ≡ q
+text-injective p q v w e = ap (λ (r : Reading). r .programme) same
+  where
+    same : readAs p ≡ readAs q
+    same = sym (written-read p v) ∙ ap readOf e ∙ written-read q w

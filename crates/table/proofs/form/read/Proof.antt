@@ -1,0 +1,89 @@
+-- `programme::form::read` meets its contract.
+-- Assumes nothing.
+use borrow.Author.Needs.{needs}
+use lib.Dec.{lit≤}
+use Rattle.text.specs.Template.{capital, holes}
+use Rattle.table.proofs.LineKinds as law
+use Rattle.table.proofs.form.read.Statement.{statement}
+use Rattle.table.proofs.form.read.Tie as tie
+
+kind-requires : tie.Need-kind-requires
+kind-requires c κs = search needs
+
+slice-aggregate-read-line : tie.Need-slice-aggregate-read-line
+slice-aggregate-read-line c = search needs
+
+read-line-requires : tie.Need-read-line-requires
+unfolding capital holes
+read-line-requires c κs = lit≤ tt
+
+quota-requires : tie.Need-quota-requires
+quota-requires c κs = search needs
+
+slice-aggregate-read-line-2 : tie.Need-slice-aggregate-read-line-2
+slice-aggregate-read-line-2 c = search needs
+
+read-line-requires-2 : tie.Need-read-line-requires-2
+unfolding capital holes
+read-line-requires-2 c κs = lit≤ tt
+
+surplus-requires : tie.Need-surplus-requires
+surplus-requires c κs = search needs
+
+slice-aggregate-read-line-3 : tie.Need-slice-aggregate-read-line-3
+slice-aggregate-read-line-3 c = search needs
+
+read-line-requires-3 : tie.Need-read-line-requires-3
+unfolding capital holes
+read-line-requires-3 c κs = lit≤ tt
+
+risk-requires : tie.Need-risk-requires
+risk-requires c κs = search needs
+
+slice-aggregate-read-line-4 : tie.Need-slice-aggregate-read-line-4
+slice-aggregate-read-line-4 c = search needs
+
+read-line-requires-4 : tie.Need-read-line-requires-4
+unfolding capital holes
+read-line-requires-4 c κs = lit≤ tt
+
+cat-requires : tie.Need-cat-requires
+cat-requires c κs = search needs
+
+returns : tie.Need-returns
+returns c = search law.form-quota
+
+returns-2 : tie.Need-returns-2
+returns-2 c = search law.form-surplus
+
+returns-3 : tie.Need-returns-3
+returns-3 c = search law.form-risk
+
+returns-4 : tie.Need-returns-4
+returns-4 c = search law.form-cat
+
+returns-5 : tie.Need-returns-5
+returns-5 c = search law.form-none
+
+pub read-spec : {M : Type 1} → statement M
+read-spec =
+    tie.close
+    (tie.spec
+    kind-requires
+    slice-aggregate-read-line
+    read-line-requires
+    quota-requires
+    slice-aggregate-read-line-2
+    read-line-requires-2
+    surplus-requires
+    slice-aggregate-read-line-3
+    read-line-requires-3
+    risk-requires
+    slice-aggregate-read-line-4
+    read-line-requires-4
+    cat-requires
+    returns
+    returns-2
+    returns-3
+    returns-4
+    returns-5)

@@ -1,0 +1,4 @@
+pub mod Forms
+pub mod Read
+pub mod LineByLine
+pub mod Write

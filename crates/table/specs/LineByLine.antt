@@ -1,0 +1,16 @@
+-- What reading answers from the places that it filled line by line.
+-- Assumes nothing.
+use mathlib.Core.List.{List}
+use Rattle.treaty.specs.declared.Treaty.{Treaty}
+use Rattle.layer.specs.declared.terms.Terms.{Terms}
+use Rattle.programme.specs.declared.rule.Progress.{Progress}
+use Rattle.table.specs.declared.Reading.{Reading}
+use Rattle.table.specs.Read.{readAs}
+
+-- a success with these places, used as far as the counts tell
+abbrev pub readPlaces : List Treaty → List Terms → List Terms → Progress → Reading
+readPlaces ts rs cs p = readAs (record {
+  treaties = record { places = ts; count = p .treaties .count };
+  risk = record { places = rs; count = p .risk .count };
+  cat = record { places = cs; count = p .cat .count };
+})

@@ -1,0 +1,138 @@
+// Reading and writing a treaty table.
+ghost use mathlib.Core.Path.{_≡_};
+ghost use lib.ListN.{length};
+ghost use Rattle.programme.specs.Contracts.{noContracts};
+ghost use Rattle.table.specs.Forms.{formsOf};
+ghost use Rattle.table.specs.Read.{refusedAt, readFrom, readOf};
+ghost use Rattle.table.specs.LineByLine.{readPlaces};
+ghost use Rattle.table.specs.Write.{writeOf, answerOf, bufferAfter};
+use crate::form::Form;
+use layer::terms::Terms;
+use programme::Answer;
+use programme::contract;
+use programme::contract::Contract;
+use programme::contract::Layers;
+use programme::contract::Programme;
+use programme::contract::Treaties;
+use programme::rule::Progress;
+use programme::valid;
+use text::line;
+use treaty::Treaty;
+
+pub mod form;
+pub mod print;
+
+// What reading answers: refusal 0 and the programme, or a refusal, its line and the programme without contracts.
+#[repr(C)]
+pub struct Reading {
+    pub refusal: u64,
+    pub line: u64,
+    pub programme: Programme,
+}
+
+// A refusal, with the programme without contracts.
+fn refused(refusal: u64, line: u64) -> Reading
+    ensures { λ r. ⌜ r ≡ refusedAt refusal line ⌝ }
+{
+    Reading {
+        refusal,
+        line,
+        programme: Programme::empty(),
+    }
+}
+
+// A success, from the places and how many of each are used.
+fn accepted(treaties: [Treaty; 8], risk: [Terms; 8], cat: [Terms; 8], counts: Progress) -> Reading
+    ensures { λ r. ⌜ r ≡ readPlaces treaties risk cat counts ⌝ }
+{
+    let programme = Programme {
+        treaties: Treaties {
+            places: treaties,
+            count: counts.treaties.count,
+        },
+        risk: Layers {
+            places: risk,
+            count: counts.risk.count,
+        },
+        cat: Layers {
+            places: cat,
+            count: counts.cat.count,
+        },
+    };
+    Reading {
+        refusal: 0,
+        line: 0,
+        programme,
+    }
+}
+
+// The contracts of a text's lines, or the first line at fault.
+fn read_lines(text: &[u8]) -> Reading
+    ensures { λ r. ⌜ r ≡ readFrom 1 noContracts (formsOf (now (text .entry))) ⌝ }
+{
+    let mut treaties = [contract::no_treaty(); 8];
+    let mut risk = [contract::no_terms(); 8];
+    let mut cat = [contract::no_terms(); 8];
+    let mut before = Progress::first();
+    let mut number: u64 = 0;
+    let mut at = 0;
+    while at < text.len() {
+        let end = line::end(text, at);
+        number += 1;
+        if end == text.len() {
+            return refused(2, number);
+        }
+        let Form::Line(contract) = form::read(&text[at..end]) else {
+            return refused(2, number);
+        };
+        let fault = before.fault(contract);
+        if fault != 0 {
+            return refused(fault, number);
+        }
+        at = end + 1;
+        let k = before.place(contract);
+        before = before.after(contract);
+        match contract {
+            Contract::Proportional(treaty) => treaties[k] = treaty,
+            Contract::Risk(terms) => risk[k] = terms,
+            Contract::Cat(terms) => cat[k] = terms,
+        }
+    }
+    accepted(treaties, risk, cat, before)
+}
+
+// Reads a table text.
+pub fn read(text: &[u8]) -> Reading
+    ensures { λ r. ⌜ r ≡ readOf (now (text .entry)) ⌝ }
+{
+    if 8192 < text.len() {
+        return refused(1, 0);
+    }
+    read_lines(text)
+}
+
+// Writes a programme's table text into a buffer.
+pub fn write(programme: Programme, buffer: &mut [u8]) -> Answer
+    ensures { λ r. ⌜ (r ≡ answerOf (writeOf programme (length (now (buffer .entry)))))
+        × (now (buffer .exit)
+        ≡ bufferAfter (writeOf programme (length (now (buffer .entry)))) (now (buffer .entry))) ⌝ }
+{
+    if valid::holds(programme) {
+        let needed = print::put_table(&mut buffer[..0], programme);
+        if buffer.len() < needed {
+            return Answer {
+                refusal: 7,
+                number: needed as u64,
+            };
+        }
+        print::put_table(buffer, programme);
+        return Answer {
+            refusal: 0,
+            number: needed as u64,
+        };
+    }
+    Answer {
+        refusal: 6,
+        number: 0,
+    }
+}
