@@ -195,7 +195,7 @@ fn cat_tier() -> Tier
 
 // One subject to every layer of a tier: recoveries and premiums, added.
 fn tier_figures() {
-    let borne = cat_tier().bear(350000000);
+    let borne = cat_tier().bear(&[350000000]);
     let sums = borne.sums;
     io::write_all(STDOUT_FILENO, b"H1 tier");
     amount(sums.recovered.cents());

@@ -3,6 +3,8 @@ pub mod Recoveries
 pub mod Premiums
 pub mod Records
 pub mod Year
+pub mod Through
 pub mod Tiers
+pub mod LayerPass
 pub mod TierPass
 pub mod Corners

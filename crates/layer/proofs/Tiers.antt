@@ -1,21 +1,23 @@
 -- Laws of a tier.
 -- Assumes nothing.
 use mathlib.Core.Path.{_≡_, refl, ap}
-use mathlib.Core.List.{List, [], _∷_, _++_}
+use mathlib.Core.List.{List, [], _∷_, _++_, map}
 use Prim.Native.Nat.{ℕ, zero, suc, _+_, _-_, _*_, _≤_, zero-le}
-use native.Mathlib.Nat.{add-sub-of-le}
 use native.Mathlib.Omega.{arith}
 use lib.ListN.{length, take, drop}
+use Rattle.lists.specs.Sums.{total}
 use Rattle.lists.specs.Each.{Each}
 use Rattle.lists.proofs.Bounds.{sum-le-sum, sum-le}
 use Rattle.layer.specs.declared.record.Layer.{Layer}
 use Rattle.layer.specs.declared.tier.Tier.{Tier}
-use Rattle.layer.specs.Layer.{broughtBy, afterSubject, recoveryBy, chargeBy}
-use Rattle.layer.specs.Tier.{layersAfter, lossesBy, recoveriesBy, chargesBy, leftBy, layersOf, tierAfter}
+use Rattle.layer.specs.Layer.{broughtBy, recoveryBy}
+use Rattle.layer.specs.Tier.{layersAfter, lossesBy, recoveriesBy, layersOf, tierThrough}
+use Rattle.layer.specs.Tier.{layersThrough, recoveriesThrough, chargesThrough, leftThrough}
 use Rattle.layer.specs.Ranges.{Sound, Rising, SoundTier}
 use Rattle.layer.proofs.Recoveries.{recovery-le}
-use Rattle.layer.proofs.Premiums.{charge-le}
 use Rattle.layer.proofs.Records.{sound-after}
+use Rattle.layer.proofs.Through.{afterEach, recoveredEach, recovered-each-le, chargedEach, charged-each-le}
+use Rattle.layer.proofs.Through.{layers-each, recoveries-each, charges-each}
 
 -- for bands that rise from e on, the losses that a subject brings add to at most what lies above e
 pub losses-le : (x e : ℕ) (ys : List Layer) → Rising e ys → lossesBy x ys ≤ x - e
@@ -31,17 +33,20 @@ recoveries-le-losses x ys s =
 pub recoveries-le-subject : (x : ℕ) (ys : List Layer) → Each Sound ys → Rising 0 ys → recoveriesBy x ys ≤ x
 recoveries-le-subject x ys s r = omega (arith, recoveries-le-losses x ys s, losses-le x 0 ys r)
 
-pub recoveries-le : (x : ℕ) (ys : List Layer) → Each Sound ys → recoveriesBy x ys ≤ length ys * 10000000000000
-recoveries-le x ys s =
-    sum-le Sound (recoveryBy x) 10000000000000
-    (λ y h. omega (arith, recovery-le (broughtBy (y .terms) x) y (h .terms .placed), h .terms)) ys s
+-- however many amounts there are, recoveries and premiums stay within those of a year
+pub recoveries-through-le : (xs : List ℕ) (ls : List Layer) → Each Sound ls
+    → recoveriesThrough xs ls ≤ length ls * 210000000000000
+recoveries-through-le xs ls s =
+    rw (recoveries-each xs ls)
+    (sum-le Sound (recoveredEach xs) 210000000000000 (λ y h. omega (arith, recovered-each-le xs y h, h .terms)) ls s)
 
-pub charges-le : (x : ℕ) (ys : List Layer) → Each Sound ys → chargesBy x ys ≤ length ys * 40000000000000
-charges-le x ys s =
-    sum-le Sound (chargeBy x) 40000000000000
-    (λ y h. omega (arith, charge-le (broughtBy (y .terms) x) y h, h .terms)) ys s
+pub charges-through-le : (xs : List ℕ) (ls : List Layer) → Each Sound ls
+    → chargesThrough xs ls ≤ length ls * 40000000000000
+charges-through-le xs ls s =
+    rw (charges-each xs ls)
+    (sum-le Sound (chargedEach xs) 40000000000000 (λ y h. omega (arith, charged-each-le xs y h, h .terms)) ls s)
 
--- a sound tier stays sound
+-- sound layers stay sound, and their bands rise as before
 pub each-after : (x : ℕ) (ys : List Layer) → Each Sound ys → Each Sound (layersAfter x ys)
 each-after x [] s = tt
 each-after x (y ∷ ys) s = (sound-after (broughtBy (y .terms) x) y (s .0), each-after x ys (s .1))
@@ -50,23 +55,40 @@ pub rising-after : (x e : ℕ) (ys : List Layer) → Rising e ys → Rising e (l
 rising-after x e [] r = tt
 rising-after x e (y ∷ ys) r = (r .0, rising-after x (y .terms .attachment + y .terms .limit) ys (r .1))
 
-first-after : (x n : ℕ) (l : List Layer) → take n (layersAfter x (take n l) ++ drop n l) ≡ layersAfter x (take n l)
-first-after x zero l = refl
-first-after x (suc n) [] = refl
-first-after x (suc n) (y ∷ ys) = ap (λ zs. afterSubject x y ∷ zs) (first-after x n ys)
+-- so it is through amounts in turn
+pub sound-through : (xs : List ℕ) (ls : List Layer) → Each Sound ls → Each Sound (layersThrough xs ls)
+sound-through [] ls s = s
+sound-through (x ∷ xs) ls s = sound-through xs (layersAfter x ls) (each-after x ls s)
 
-module _ (x : ℕ) (t : Tier) where
+pub rising-through : (xs : List ℕ) (e : ℕ) (ls : List Layer) → Rising e ls → Rising e (layersThrough xs ls)
+rising-through [] e ls r = r
+rising-through (x ∷ xs) e ls r = rising-through xs e (layersAfter x ls) (rising-after x e ls r)
+
+-- what a tier leaves of its subjects never goes below 0
+pub recovered-and-left-through : (xs : List ℕ) (ls : List Layer) → Each Sound ls → Rising 0 ls
+    → recoveriesThrough xs ls + leftThrough xs ls ≡ total xs
+recovered-and-left-through [] ls s r = refl
+recovered-and-left-through (x ∷ xs) ls s r =
+    omega (
+      arith,
+      recoveries-le-subject x ls s r,
+      recovered-and-left-through xs (layersAfter x ls) (each-after x ls s) (rising-after x 0 ls r),
+    )
+
+-- the first n places of which each was replaced
+first-mapped : (f : Layer → Layer) (n : ℕ) (l : List Layer) → take n (map f (take n l) ++ drop n l) ≡ map f (take n l)
+first-mapped f zero l = refl
+first-mapped f (suc n) [] = refl
+first-mapped f (suc n) (y ∷ ys) = ap (λ zs. f y ∷ zs) (first-mapped f n ys)
+
+module _ (xs : List ℕ) (t : Tier) where
   -- the layers of the tier after are its layers, each brought up to date
-  pub layers-after : layersOf (tierAfter x t) ≡ layersAfter x (layersOf t)
-  layers-after = first-after x (t .count) (t .layers)
+  pub layers-through : layersOf (tierThrough xs t .tier) ≡ layersThrough xs (layersOf t)
+  layers-through = rw (layers-each xs (layersOf t)) (first-mapped (afterEach xs) (t .count) (t .layers))
 
-  pub sound-tier-after : SoundTier t → SoundTier (tierAfter x t)
-  sound-tier-after s = record {
+  pub sound-tier-through : SoundTier t → SoundTier (tierThrough xs t .tier)
+  sound-tier-through s = record {
     count = s .count;
-    each = rw layers-after (each-after x (layersOf t) (s .each));
-    rising = rw layers-after (rising-after x 0 (layersOf t) (s .rising));
+    each = rw layers-through (sound-through xs (layersOf t) (s .each));
+    rising = rw layers-through (rising-through xs 0 (layersOf t) (s .rising));
   }
-
-  -- what a tier leaves of its subject never goes below 0
-  pub recovered-and-left : SoundTier t → recoveriesBy x (layersOf t) + leftBy x (layersOf t) ≡ x
-  recovered-and-left s = add-sub-of-le (recoveries-le-subject x (layersOf t) (s .each) (s .rising))

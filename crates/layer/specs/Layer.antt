@@ -1,4 +1,4 @@
--- Document 01, Layers: a layer's figures from its terms t and its spent amount m, and its record through one loss.
+-- Document 01, Layers: a layer's figures from its terms t and its spent amount m, and its record through losses.
 -- Assumes nothing.
 use mathlib.Core.List.{List, [], _∷_}
 use Prim.Native.Nat.{ℕ, _+_, _-_, _*_, min, max}
@@ -117,3 +117,8 @@ chargeBy x y = chargeOf (broughtBy (y .terms) x) y
 
 abbrev pub borneBy : ℕ → Sums → Layer → Borne
 borneBy x s y = borneOf (broughtBy (y .terms) x) s y
+
+-- the record and the sums after the losses that amounts bring, each amount in turn the subject
+abbrev pub borneThrough : List ℕ → Sums → Layer → Borne
+borneThrough [] s y = record { layer = y; sums = s }
+borneThrough (x ∷ xs) s y = borneThrough xs (borneBy x s y .sums) (borneBy x s y .layer)

@@ -32,6 +32,11 @@ pub record Room (s : Sums) : Type 0 where
   pub recovered : s .recovered .0 ≤ 2 ^ 62
   pub premium : s .premium .0 ≤ 2 ^ 62
 
+-- sums with room for any number of losses of one layer
+pub record Ample (s : Sums) : Type 0 where
+  pub recovered : s .recovered .0 ≤ 2 ^ 61
+  pub premium : s .premium .0 ≤ 2 ^ 61
+
 -- each attachment is at least the attachment plus limit of the line before, and the first at least e
 abbrev pub Rising : ℕ → List Layer → Type 0
 Rising e [] = Unit {0}

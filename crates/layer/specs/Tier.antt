@@ -1,7 +1,8 @@
--- Document 01, Layers: the layers of one tier look at the same subject, and none sees another's remainder.
+-- Document 01, Layers: the layers of one tier look at the same subject, none sees another's remainder, and
+-- amounts come to them in turn.
 -- Assumes nothing.
-use mathlib.Core.List.{List, _++_, map}
-use Prim.Native.Nat.{ℕ, _-_}
+use mathlib.Core.List.{List, [], _∷_, _++_, map}
+use Prim.Native.Nat.{ℕ, _+_, _-_}
 use lib.ListN.{take, drop}
 use Rattle.lists.specs.Sums.{sumOf}
 use Rattle.layer.specs.declared.record.Layer.{Layer}
@@ -27,14 +28,40 @@ leftBy x ys = x - recoveriesBy x ys
 abbrev pub layersAfter : ℕ → List Layer → List Layer
 layersAfter x ys = map (afterSubject x) ys
 
+-- Amounts in turn, each of them the subject of every layer of a tier: the layers after the last.
+abbrev pub layersThrough : List ℕ → List Layer → List Layer
+layersThrough [] ls = ls
+layersThrough (y ∷ ys) ls = layersThrough ys (layersAfter y ls)
+
+-- their recoveries, added
+abbrev pub recoveriesThrough : List ℕ → List Layer → ℕ
+recoveriesThrough [] ls = 0
+recoveriesThrough (y ∷ ys) ls = recoveriesBy y ls + recoveriesThrough ys (layersAfter y ls)
+
+-- their premiums, added
+abbrev pub chargesThrough : List ℕ → List Layer → ℕ
+chargesThrough [] ls = 0
+chargesThrough (y ∷ ys) ls = chargesBy y ls + chargesThrough ys (layersAfter y ls)
+
+-- what the recoveries leave of the amounts, added
+abbrev pub leftThrough : List ℕ → List Layer → ℕ
+leftThrough [] ls = 0
+leftThrough (y ∷ ys) ls = leftBy y ls + leftThrough ys (layersAfter y ls)
+
 -- a tier's layers stand in its first places
 abbrev pub layersOf : Tier → List Layer
 layersOf t = take (t .count) (t .layers)
 
--- the tier after x: its layers are brought up to date, the places past them stay
-abbrev pub tierAfter : ℕ → Tier → Tier
-tierAfter x t = record { layers = layersAfter x (layersOf t) ++ drop (t .count) (t .layers); count = t .count }
+-- the tier after amounts in turn: its layers are brought up to date, the places past them stay
+abbrev pub tierAfter : List ℕ → Tier → Tier
+tierAfter xs t = record {
+  layers = layersThrough xs (layersOf t) ++ drop (t .count) (t .layers);
+  count = t .count;
+}
 
 -- with its recoveries and its premiums, added
-abbrev pub tierBorne : ℕ → Tier → TierBorne
-tierBorne x t = record { tier = tierAfter x t; sums = sumsOf (recoveriesBy x (layersOf t)) (chargesBy x (layersOf t)) }
+abbrev pub tierThrough : List ℕ → Tier → TierBorne
+tierThrough xs t = record {
+  tier = tierAfter xs t;
+  sums = sumsOf (recoveriesThrough xs (layersOf t)) (chargesThrough xs (layersOf t));
+}

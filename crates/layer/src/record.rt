@@ -1,9 +1,9 @@
-// A layer's record: it takes a loss and gives back the record after it.
+// A layer's record: it takes losses and gives back the record after them.
 ghost use mathlib.Core.Path.{_≡_};
 ghost use Prim.Native.Nat.{_≤_};
 ghost use Rattle.layer.specs.Layer.{deductibleLeftOf, coverLeftOf, usedOf, reinstatedOf, recoveredOf, premiumOf};
-ghost use Rattle.layer.specs.Layer.{layerAfter, recoveredSince, chargedSince, borneOf, borneBy};
-ghost use Rattle.layer.specs.Ranges.{Sound, Room};
+ghost use Rattle.layer.specs.Layer.{layerAfter, recoveredSince, chargedSince, borneOf, borneBy, borneThrough};
+ghost use Rattle.layer.specs.Ranges.{Sound, Room, Ample};
 use crate::amount::Placed;
 use crate::amount::Whole;
 use crate::terms::Terms;
@@ -20,7 +20,7 @@ pub struct Sums {
     pub premium: Placed,
 }
 
-// The record after a loss, and the sums with its recovery and premium.
+// The record after losses, and the sums with their recoveries and premiums.
 pub struct Borne {
     pub layer: Layer,
     pub sums: Sums,
@@ -132,5 +132,20 @@ impl Layer {
                 premium: sums.premium.plus(premium),
             },
         }
+    }
+
+    // The record and the sums after the losses that amounts bring, each amount in turn the subject.
+    pub fn bear_each(self, subjects: &[u64], sums: Sums) -> Borne
+        requires { ⌜ Sound self × Ample sums ⌝ }
+        ensures { λ r. ⌜ r ≡ borneThrough (now (subjects .entry)) sums self ⌝ }
+    {
+        let mut layer = self;
+        let mut sums = sums;
+        for i in 0..subjects.len() {
+            let borne = layer.bear(subjects[i], sums);
+            layer = borne.layer;
+            sums = borne.sums;
+        }
+        Borne { layer, sums }
     }
 }

@@ -1,6 +1,6 @@
-// The layers of one tier: each looks at the same subject amount, and none sees another's remainder.
+// The layers of one tier: each looks at the same subject amounts, and none sees another's remainder.
 ghost use mathlib.Core.Path.{_≡_};
-ghost use Rattle.layer.specs.Tier.{tierBorne};
+ghost use Rattle.layer.specs.Tier.{tierThrough};
 ghost use Rattle.layer.specs.Ranges.{SoundTier};
 use crate::amount::Placed;
 use crate::record::Layer;
@@ -12,16 +12,17 @@ pub struct Tier {
     pub count: usize,
 }
 
-// The tier after a subject amount, and its layers' recoveries and premiums, added.
+// The tier after subject amounts, and its layers' recoveries and premiums, added.
 pub struct TierBorne {
     pub tier: Tier,
     pub sums: Sums,
 }
 
 impl Tier {
-    pub fn bear(self, subject: u64) -> TierBorne
+    // The tier after amounts, each in turn the subject of every layer: layer by layer, since none looks at another.
+    pub fn bear(self, subjects: &[u64]) -> TierBorne
         requires { ⌜ SoundTier self ⌝ }
-        ensures { λ r. ⌜ r ≡ tierBorne subject self ⌝ }
+        ensures { λ r. ⌜ r ≡ tierThrough (now (subjects .entry)) self ⌝ }
     {
         let mut tier = self;
         let count = self.count;
@@ -31,7 +32,7 @@ impl Tier {
         };
         for i in 0..count {
             let layer = tier.layers[i];
-            let borne = layer.bear(subject, sums);
+            let borne = layer.bear_each(subjects, sums);
             let after = borne.layer;
             tier.layers[i] = after;
             sums = borne.sums;

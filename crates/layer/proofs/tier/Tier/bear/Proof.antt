@@ -8,10 +8,10 @@ use Rattle.layer.proofs.tier.Tier.bear.Statement.{statement}
 use Rattle.layer.proofs.tier.Tier.bear.Tie as tie
 
 abbrev Inv-loop : tie.InvT-loop
-Inv-loop subject tier₀ count sums₀ i₀ tier sums i = Passed subject tier₀ i tier sums
+Inv-loop subjects tier₀ count sums₀ i₀ tier sums i = Passed subjects tier₀ i tier sums
 
 abbrev μ-loop : tie.MeasureT-loop
-μ-loop subject tier₀ count sums₀ i₀ tier sums i = count - i
+μ-loop subjects tier₀ count sums₀ i₀ tier sums i = count - i
 
 none-requires : tie.Need-none-requires Inv-loop μ-loop
 none-requires c κs = search needs
@@ -21,7 +21,7 @@ none-requires-2 c κs = search needs
 
 loop-holds : tie.Need-loop-holds Inv-loop μ-loop
 loop-holds c =
-    let s = c .before .before in
+    let s = c .before .before .before in
     let long = unmapped _ (s .args .self .layers) (s .good .0 .1 .1 .0 .1 .0 .1) in
     none-passed _ _ _ (s .pre) long (c .before .none .ensures) (c .none2 .ensures)
 
@@ -31,8 +31,8 @@ mul-layer c = search needs
 element-copy-out-layer : tie.Need-element-copy-out-layer Inv-loop μ-loop
 element-copy-out-layer c = search needs
 
-bear-requires : tie.Need-bear-requires Inv-loop μ-loop
-bear-requires c κs = next-bears _ _ _ _ _ (c .before .before .loop .inv) _ (search needs)
+bear-each-requires : tie.Need-bear-each-requires Inv-loop μ-loop
+bear-each-requires c κs = next-bears _ _ _ _ _ (c .before .before .loop .inv) _ (search needs)
 
 mul-after : tie.Need-mul-after Inv-loop μ-loop
 mul-after c = search needs
@@ -63,7 +63,7 @@ bear-spec =
     loop-holds
     mul-layer
     element-copy-out-layer
-    bear-requires
+    bear-each-requires
     mul-after
     element-set-from-after
     add-i
