@@ -12,8 +12,8 @@ use lib.Dec.{ltb}
 use lib.ListN.{length, length-append}
 use Rattle.lists.specs.Sums.{sumOf}
 use Rattle.lists.specs.Each.{Each}
+use Rattle.lists.proofs.Cases.{by-lt}
 use Rattle.text.specs.Lines.{linesOf}
-use Rattle.text.proofs.Cases.{by-lt}
 use Rattle.text.proofs.Cuts.{WholeLines, lines-append}
 use Rattle.treaty.specs.declared.Treaty.{Treaty}
 use Rattle.treaty.specs.declared.Loss.{Loss}
@@ -125,7 +125,7 @@ no-fault a b n r z =
     (λ h. absurd (omega (arith, simp (lt-ltb a b h) at z)))
     (λ h. (h, simp (le-ltb a b h) at z))
 
-event-lawful : (ts : List Treaty) (d : ℕ) (e : Event) → eventFault ts d e ≡ 0 → EventLawful e
+pub event-lawful : (ts : List Treaty) (d : ℕ) (e : Event) → eventFault ts d e ≡ 0 → EventLawful e
 unfolding eventOutside eventFault
 event-lawful ts d e z =
     let r = no-fault 0 (eventOutside e) 10 _ z in

@@ -1,3 +1,4 @@
 pub mod Event
+pub mod Form
 pub mod Rules
 pub mod Read

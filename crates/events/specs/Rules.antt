@@ -30,12 +30,12 @@ inTable (t ∷ ts) n = eqb n (t .number) || inTable ts n
 unfoldable pub lacking : List Treaty → List Loss → ℕ
 lacking ts xs = sumOf (λ (x : Loss). cond (inTable ts (x .treaty)) 0 1) xs
 
--- An event after the day `before` under the table's treaties: 11, a number outside its range; 12, over 64 losses; 13,
--- a day below the line before; 14, a treaty other than 0 that the table lacks. The lowest number decides; 0 is no
--- fault.
+-- 11, a number outside its range; 12, over 64 losses; 13, a day below the line before; 14, a treaty other than 0 that
+-- the table lacks. The lowest number decides; 0 is no fault.
+abbrev pub faultOf : (outside count day before lacking : ℕ) → ℕ
+faultOf outside count day before lacking =
+    cond (ltb 0 outside) 11 (cond (ltb 64 count) 12 (cond (ltb day before) 13 (cond (ltb 0 lacking) 14 0)))
+
+-- the fault of an event after the day `before`, under the table's treaties
 unfoldable pub eventFault : List Treaty → (before : ℕ) → Event → ℕ
-eventFault ts before e =
-    cond (ltb 0 (eventOutside e)) 11
-    (cond (ltb 64 (length (e .losses))) 12
-    (cond (ltb (e .day) before) 13
-    (cond (ltb 0 (lacking ts (e .losses))) 14 0)))
+eventFault ts before e = faultOf (eventOutside e) (length (e .losses)) (e .day) before (lacking ts (e .losses))

@@ -1,1 +1,3 @@
-// Events: what an events text says, and the rules that its lines keep to.
+// Events: the parts of an event form, read off a line, and the rules that a line keeps to.
+pub mod form;
+pub mod rule;

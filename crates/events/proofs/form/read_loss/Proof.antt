@@ -1,0 +1,50 @@
+-- `events::form::read_loss` meets its contract.
+-- Assumes nothing.
+use borrow.Author.Needs.{needs}
+use lib.Dec.{lit≤}
+use Rattle.text.specs.Template.{capital, holes}
+use Rattle.events.proofs.LineParts as law
+use Rattle.events.proofs.form.read_loss.Statement.{statement}
+use Rattle.events.proofs.form.read_loss.Tie as tie
+
+slice-aggregate-read-at : tie.Need-slice-aggregate-read-at
+slice-aggregate-read-at c = search needs
+
+read-at-requires : tie.Need-read-at-requires
+unfolding capital holes
+read-at-requires c κs = (lit≤ tt, search needs)
+
+enum-known-place : tie.Need-enum-known-place
+enum-known-place c = search needs
+
+enum-told : tie.Need-enum-told
+enum-told c = search needs
+
+returns : tie.Need-returns
+returns c = search law.no-loss
+
+array-read-t13 : tie.Need-array-read-t13
+array-read-t13 c = search needs
+
+array-read-t16 : tie.Need-array-read-t16
+array-read-t16 c = search needs
+
+array-read-t19 : tie.Need-array-read-t19
+array-read-t19 c = search needs
+
+returns-2 : tie.Need-returns-2
+returns-2 c = search law.loss-read
+
+pub read-loss-spec : {M : Type 1} → statement M
+read-loss-spec =
+    tie.close
+    (tie.spec
+    slice-aggregate-read-at
+    read-at-requires
+    enum-known-place
+    enum-told
+    returns
+    array-read-t13
+    array-read-t16
+    array-read-t19
+    returns-2)
