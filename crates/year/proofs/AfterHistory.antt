@@ -8,7 +8,7 @@ use Prim.Native.Nat.{ℕ, _≤_}
 use lib.ListN.{length, take, length-map}
 use lib.Seq.{take-all}
 use Rattle.lists.specs.Places.{inPlaces}
-use Rattle.text.proofs.Cases.{by-test}
+use Rattle.lists.proofs.Cases.{by-test}
 use Rattle.layer.specs.declared.terms.Terms.{Terms}
 use Rattle.layer.specs.declared.record.Layer.{Layer}
 use Rattle.programme.specs.declared.contract.Programme.{Programme}

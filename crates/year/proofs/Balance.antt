@@ -2,7 +2,7 @@
 -- subtraction stops at 0.
 -- Assumes nothing.
 use Prim.{Unit}
-use mathlib.Core.Path.{_≡_, refl, ap, _∙_}
+use mathlib.Core.Path.{_≡_, refl, ap, sym, _∙_}
 use mathlib.Core.Bool.{true}
 use mathlib.Core.List.{List, [], _∷_, _++_}
 use Prim.Native.Nat.{ℕ, _+_, _≤_}
@@ -19,15 +19,14 @@ use Rattle.treaty.specs.Losses.{grossOf, cededIn, cededOfEach}
 use Rattle.treaty.proofs.Losses.{ceded-le-loss, all-ceded-and-left}
 use Rattle.layer.specs.declared.terms.Terms.{Terms}
 use Rattle.layer.specs.declared.record.Layer.{Layer}
-use Rattle.layer.specs.Tier.{recoveriesBy, layersAfter}
-use Rattle.layer.proofs.Tiers.{recoveries-le-subject}
+use Rattle.layer.specs.Tier.{recoveriesBy, layersAfter, recoveriesThrough, leftThrough}
+use Rattle.layer.proofs.Tiers.{recoveries-le-subject, recovered-and-left-through}
 use Rattle.programme.specs.Contracts.{Contracts}
 use Rattle.programme.specs.Rules.{treatyNumber, bandEnd}
 use Rattle.programme.specs.Valid.{treatyPasses, layerPasses}
 use Rattle.programme.proofs.Lawful.{Lawful}
 use Rattle.events.specs.Event.{Event, lossesIn}
-use Rattle.year.specs.Event.{recoveriesThrough, leftThrough, Year, leftByTreaties, subjectOf, eventAfter}
-use Rattle.year.specs.Event.{eventAmounts}
+use Rattle.year.specs.Event.{Year, leftByTreaties, subjectOf, eventAfter, eventAmounts}
 use Rattle.year.specs.Statement.{cededBy, eventLines, totals, EventLine}
 use Rattle.year.specs.History.{Balanced, grossIn, cededByAll}
 use Rattle.year.proofs.Treaties.{passed-cedes, events-ceded}
@@ -71,12 +70,6 @@ module _ (ts : List Terms) (passes : chained layerPasses bandEnd 0 ts ≡ true) 
   recovered-within (y ∷ ys) ls k =
       (within-subject y ls k, recovered-within ys (layersAfter y ls) (carries-after ts ls y k))
 
--- recovered within the amounts, they are what is recovered and what is left
-through-added : (ys : List ℕ) (ls : List Layer) → RecoveredWithin ys ls
-    → total ys ≡ recoveriesThrough ys ls + leftThrough ys ls
-through-added [] ls w = refl
-through-added (y ∷ ys) ls w = omega (arith, w .0, through-added ys (layersAfter y ls) (w .1))
-
 module _ (c : Contracts) (lawful : Lawful c) where
   -- so it is of an event under lawful contracts
   pub event-exact : (y : Year) (e : Event) → Under c y → Exact (c .treaties) y e
@@ -94,7 +87,9 @@ module _ (c : Contracts) (lawful : Lawful c) where
   -- what the risk layers recover and leave of amounts in turn are the amounts
   pub through-balanced : (ys : List ℕ) (ls : List Layer) → Carries (c .risk) ls
       → total ys ≡ recoveriesThrough ys ls + leftThrough ys ls
-  through-balanced ys ls k = through-added ys ls (recovered-within (c .risk) (lawful .risk) ys ls k)
+  through-balanced ys ls k =
+      sym (recovered-and-left-through ys ls (carries-sound (c .risk) ls (lawful .risk) k)
+      (carries-rising (c .risk) ls (lawful .risk) k))
 
   -- net never goes below 0: the catastrophe recoveries and the net are their subject
   pub net-exact : (y : Year) (e : Event) → Under c y

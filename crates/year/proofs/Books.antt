@@ -14,13 +14,13 @@ use Rattle.treaty.specs.declared.Loss.{Loss}
 use Rattle.treaty.specs.Losses.{leftIn, leftOfEach}
 use Rattle.layer.specs.declared.terms.Terms.{Terms}
 use Rattle.layer.specs.Layer.{cutAtCap, recoveredOf}
-use Rattle.layer.specs.Tier.{recoveriesBy}
+use Rattle.layer.specs.Tier.{recoveriesBy, recoveriesThrough}
 use Rattle.layer.proofs.Recoveries.{recovered-zero, recovered-mono}
 use Rattle.programme.specs.Contracts.{Contracts}
 use Rattle.events.specs.Event.{Event}
 use Rattle.year.specs.declared.Amounts.{Amounts}
 use Rattle.year.specs.Tiers.{TierName, risk, cat, inTier}
-use Rattle.year.specs.Event.{recoveriesThrough, subjectOf, eventAfter, eventAmounts, Year}
+use Rattle.year.specs.Event.{subjectOf, eventAfter, eventAmounts, Year}
 use Rattle.year.specs.Statement.{EventLine, eventLines, added, totals}
 use Rattle.year.specs.Ledger.{Entry, firstEntry, spentBy, lossAdded, recoveryAdded, entered, Ledger, firstLedger}
 use Rattle.year.specs.Ledger.{lossesBooked, booked}

@@ -11,11 +11,11 @@ use Rattle.treaty.specs.declared.Loss.{Loss}
 use Rattle.treaty.specs.Losses.{leftIn, leftOfEach}
 use Rattle.layer.specs.declared.record.Layer.{Layer}
 use Rattle.layer.specs.Layer.{recoveredOf, layerOf, recoveryOf, afterSubject, recoveryBy}
-use Rattle.layer.specs.Tier.{recoveriesBy, layersAfter}
+use Rattle.layer.specs.Tier.{recoveriesBy, layersAfter, layersThrough, leftThrough}
 use Rattle.layer.proofs.Year.{cut-again}
 use Rattle.events.specs.Event.{Event}
 use Rattle.year.specs.Tiers.{risk, cat}
-use Rattle.year.specs.Event.{layersThrough, leftThrough, Year, leftByTreaties, subjectOf, eventAfter, yearAfter}
+use Rattle.year.specs.Event.{Year, leftByTreaties, subjectOf, eventAfter, yearAfter}
 use Rattle.year.specs.Ledger.{Entry, spentBy, lossAdded, recoveryAdded, entered, Ledger, lossesBooked, booked}
 
 -- an entry as a layer's record

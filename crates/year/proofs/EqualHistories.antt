@@ -12,8 +12,8 @@ use Rattle.lists.specs.Each.{Each}
 use Rattle.lists.specs.Places.{inPlaces}
 use Rattle.lists.proofs.Fronts.{same-front}
 use Rattle.lists.proofs.Each.{each-replicate}
+use Rattle.lists.proofs.Cases.{by-test}
 use Rattle.text.proofs.Ascii.{Byte}
-use Rattle.text.proofs.Cases.{by-test}
 use Rattle.layer.specs.declared.terms.Terms.{Terms}
 use Rattle.layer.specs.declared.record.Layer.{Layer}
 use Rattle.layer.specs.Layer.{capOf, deductibleLeftOf, coverLeftOf}

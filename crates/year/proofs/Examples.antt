@@ -18,11 +18,11 @@ use Rattle.treaty.specs.Losses.{cededIn}
 use Rattle.layer.specs.Layer.{placedOf, recoveredOf, premiumOf, recoveryOf, chargeOf}
 use Rattle.programme.specs.declared.contract.Programme.{Programme}
 use Rattle.programme.specs.Contracts.{contractsIn}
-use Rattle.programme.specs.Forms.{kindOf, formOfKind, formOf}
 use Rattle.programme.specs.Ranges.{outside, treatyOutside, termsOutside, treatyNotZero, termsNotZero}
 use Rattle.programme.specs.Rules.{treatyFault, layerFault}
-use Rattle.programme.specs.Read.{readFrom, readOf}
 use Rattle.programme.specs.Valid.{validTreaties, validLayers, valid}
+use Rattle.table.specs.Forms.{kindOf, formOfKind, formOf}
+use Rattle.table.specs.Read.{readFrom, readOf}
 use Rattle.events.specs.Event.{closes, lossesUpTo, eventOf, statedIn}
 use Rattle.events.specs.Rules.{lossOutside, eventOutside, lacking, eventFault}
 use Rattle.events.specs.Read.{eventsOf, readFrom as eventsFrom}

@@ -17,7 +17,7 @@ use Rattle.lists.proofs.Places.{rest-unused}
 use Rattle.layer.specs.declared.terms.Terms.{Terms}
 use Rattle.layer.specs.declared.record.Layer.{Layer}
 use Rattle.layer.specs.Layer.{capOf, afterSubject}
-use Rattle.layer.specs.Tier.{layersAfter}
+use Rattle.layer.specs.Tier.{layersAfter, layersThrough}
 use Rattle.layer.specs.Ranges.{Sound, Rising}
 use Rattle.programme.specs.Contracts.{Contracts}
 use Rattle.programme.specs.Rules.{bandEnd}
@@ -26,7 +26,7 @@ use Rattle.programme.proofs.Bounds.{terms-in-range}
 use Rattle.programme.proofs.Lawful.{layer-passed}
 use Rattle.events.specs.Event.{Event}
 use Rattle.year.specs.declared.Standing.{Standing}
-use Rattle.year.specs.Event.{Year, layersThrough, leftByTreaties, subjectOf, eventAfter, yearAfter}
+use Rattle.year.specs.Event.{Year, leftByTreaties, subjectOf, eventAfter, yearAfter}
 use Rattle.year.specs.Standing.{spentOf, standingOf, layersWith, yearOf, withinCap, spentPasses, standingPasses}
 
 -- the terms of layers

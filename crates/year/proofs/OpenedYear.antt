@@ -1,7 +1,7 @@
 -- Histories begin with the standing that opening gives.
 -- Assumes nothing.
 use mathlib.Core.Path.{_≡_}
-use Rattle.text.proofs.Cases.{by-test}
+use Rattle.lists.proofs.Cases.{by-test}
 use Rattle.programme.specs.declared.contract.Programme.{Programme}
 use Rattle.programme.specs.Valid.{valid}
 use Rattle.year.specs.Standing.{fresh, openOf}

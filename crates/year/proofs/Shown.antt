@@ -13,10 +13,10 @@ use Rattle.text.proofs.Forms.{parted, separated, line-injective}
 use Rattle.treaty.specs.declared.Treaty.{Treaty}
 use Rattle.layer.specs.declared.record.Layer.{Layer}
 use Rattle.layer.specs.Layer.{afterSubject}
-use Rattle.layer.specs.Tier.{layersAfter}
+use Rattle.layer.specs.Tier.{layersAfter, layersThrough}
 use Rattle.events.specs.Event.{Event}
 use Rattle.year.specs.declared.Amounts.{Amounts}
-use Rattle.year.specs.Event.{Year, layersThrough, leftByTreaties, subjectOf, eventAfter, yearAfter}
+use Rattle.year.specs.Event.{Year, leftByTreaties, subjectOf, eventAfter, yearAfter}
 use Rattle.year.specs.Statement.{EventLine, TreatyLine, treatyLineOf, LayerLine, layerLineOf, Statement, Line}
 use Rattle.year.specs.Statement.{lineText, eventTemplate, treatyTemplate, riskTemplate, catTemplate}
 use Rattle.year.specs.Statement.{totalTemplate, amountsNumbers, treatyShown, layersShown, eventLines}

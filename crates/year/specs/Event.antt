@@ -9,29 +9,10 @@ use Rattle.treaty.specs.declared.Treaty.{Treaty}
 use Rattle.treaty.specs.Losses.{grossOf, cededOfEach, leftOfEach}
 use Rattle.layer.specs.declared.record.Layer.{Layer}
 use Rattle.layer.specs.Tier.{recoveriesBy, chargesBy, leftBy, layersAfter}
+use Rattle.layer.specs.Tier.{layersThrough, recoveriesThrough, chargesThrough, leftThrough}
 use Rattle.events.specs.Event.{Event}
 use Rattle.year.specs.declared.Amounts.{Amounts}
 use Rattle.year.specs.Tiers.{Tiers}
-
--- Amounts in turn, each of them the subject of every layer of a tier: the layers after the last.
-abbrev pub layersThrough : List ℕ → List Layer → List Layer
-layersThrough [] ls = ls
-layersThrough (y ∷ ys) ls = layersThrough ys (layersAfter y ls)
-
--- their recoveries, added
-abbrev pub recoveriesThrough : List ℕ → List Layer → ℕ
-recoveriesThrough [] ls = 0
-recoveriesThrough (y ∷ ys) ls = recoveriesBy y ls + recoveriesThrough ys (layersAfter y ls)
-
--- their premiums, added
-abbrev pub chargesThrough : List ℕ → List Layer → ℕ
-chargesThrough [] ls = 0
-chargesThrough (y ∷ ys) ls = chargesBy y ls + chargesThrough ys (layersAfter y ls)
-
--- what the recoveries leave of the amounts, added
-abbrev pub leftThrough : List ℕ → List Layer → ℕ
-leftThrough [] ls = 0
-leftThrough (y ∷ ys) ls = leftBy y ls + leftThrough ys (layersAfter y ls)
 
 -- a year's layers, tier by tier
 abbrev pub Year : Type 0
