@@ -1,0 +1,204 @@
+-- An event's losses, of which the first i went through their treaties: those ahead give the whole answer.
+-- Assumes nothing.
+use mathlib.Core.Path.{_≡_, refl, sym, _∙_}
+use mathlib.Core.List.{List, [], _∷_, _++_, map}
+use Prim.Native.Nat.{ℕ, suc, _+_, _-_, _*_, _/_, _^_, _≤_, _<_, zero-le}
+use native.Mathlib.Nat.{add-zero, zero-add}
+use native.Mathlib.Numerals.{add-one}
+use native.Mathlib.Omega.{arith}
+use lib.ListN.{length, take, drop, getD, set, length-set, drop-of-length-le}
+use lib.Seq.{sets, take-suc, drop-cons}
+use mir.Syntax.{w64}
+use mir.Val.{Fits}
+use Rattle.lists.specs.Sums.{total}
+use Rattle.lists.specs.Each.{Each}
+use Rattle.lists.proofs.Sums.{sum-append}
+use Rattle.lists.proofs.Each.{each-of, each-at}
+use Rattle.treaty.specs.declared.Treaty.{Treaty}
+use Rattle.treaty.specs.declared.Loss.{Loss}
+use Rattle.treaty.specs.declared.Cession.{Cession}
+use Rattle.treaty.specs.Treaty.{lossOf, cededOfLoss, cessionOf}
+use Rattle.treaty.specs.Losses.{grossOf, cededIn, cededOfEach, leftOfEach}
+use Rattle.treaty.specs.Ranges.{TermsInRange, LossInRange, Cedable}
+use Rattle.treaty.proofs.Cessions.{ceded-le-amount}
+use Rattle.programme.specs.Contracts.{noTreaty}
+use Rattle.losses.specs.declared.table.ByNumber.{ByNumber}
+use Rattle.losses.specs.Table.{eachNumber, withNumber, numbered}
+use Rattle.losses.specs.Cede.{lossesFrom, cededAdded, CedesEach, CanCede}
+use Rattle.losses.proofs.Stores.{each-sum, at-most, sum-at}
+use Rattle.losses.proofs.Numbers.{at-number}
+use Rattle.losses.proofs.Triples.{losses-count}
+use Rattle.losses.proofs.Earlier.{amountAt, earlierAt, ceded-with}
+
+-- Of the losses xs those of `before` went through the treaties ts, and those of `after` are ahead. The amounts come to
+-- g and what is ceded to c. The places for what is left were l₀ and are l, with i of them used; the amounts by number
+-- were cs₀ and are cs.
+pub record Columns (ts : List Treaty) (xs : List Loss) (l₀ cs₀ : List ℕ) (before after : List Loss) (i g c : ℕ)
+    (l cs : List ℕ) : Type 0 where
+  pub gross : g + grossOf after ≡ grossOf xs
+  pub ceded : c + total (cededOfEach ts before after) ≡ total (cededOfEach ts [] xs)
+  pub left : sets l i (leftOfEach ts before after) ≡ sets l₀ 0 (leftOfEach ts [] xs)
+  pub by-treaty : cededAdded ts before cs after ≡ cededAdded ts [] cs₀ xs
+
+module _ (ts : List Treaty) (xs : List Loss) (l₀ cs₀ : List ℕ) where
+  no-column : Columns ts xs l₀ cs₀ [] xs 0 0 0 l₀ cs₀
+  no-column = record { gross = zero-add _; ceded = zero-add _; left = refl; by-treaty = refl }
+
+  -- one loss more, of which d is ceded
+  one-column : (before : List Loss) (x : Loss) (after : List Loss) (i g c : ℕ) (l cs : List ℕ)
+      → Columns ts xs l₀ cs₀ before (x ∷ after) i g c l cs → (d : ℕ) → d ≡ cededIn ts before x
+      → Columns ts xs l₀ cs₀ (before ++ (x ∷ [])) after (suc i) (g + x .amount) (c + d) (set l i (x .amount - d))
+      (set cs (x .treaty) (getD cs (x .treaty) 0 + d))
+  one-column before x after i g c l cs h d is = rw is record {
+    gross = omega (arith, h .gross);
+    ceded = omega (arith, h .ceded);
+    left = h .left;
+    by-treaty = h .by-treaty;
+  }
+
+  -- no loss is ahead
+  all-columns : (before : List Loss) (i g c : ℕ) (l cs : List ℕ) → Columns ts xs l₀ cs₀ before [] i g c l cs
+      → CedesEach ts xs l₀ l cs₀ cs (record { gross = g; ceded = c })
+  all-columns before i g c l cs h = record {
+    gross = sym (add-zero g) ∙ h .gross;
+    ceded = sym (add-zero c) ∙ h .ceded;
+    left = h .left;
+    by-treaty = h .by-treaty;
+  }
+
+-- The same of the first i of k losses, for whichever treaties the places ps hold, with what keeps the sums small. U by
+-- number is `us`.
+pub record Ceding (ps : List Treaty) (xs : List Loss) (k : ℕ) (l₀ cs₀ l cs us : List ℕ) (g c i : ℕ) : Type 0 where
+  pub count : k ≡ length xs
+  pub within : i ≤ k
+  pub few : k ≤ 64
+  pub losses : Each LossInRange xs
+  pub terms : Each TermsInRange ps
+  pub nine : length ps ≡ 9
+  pub room : k ≤ length l
+  pub same-left : length l ≡ length l₀
+  pub same-sums : length cs ≡ length cs₀
+  pub nine-sums : length cs ≡ 9
+  pub nine-earlier : length us ≡ 9
+  pub gross-le : g ≤ i * 10 ^ 13
+  pub ceded-le : c ≤ g
+  pub sums-le : Each (λ (n : ℕ). n ≤ 2 ^ 62 + i * 10 ^ 13) cs
+  pub earlier-le : Each (λ (n : ℕ). n ≤ i * 10 ^ 13) us
+  pub earlier : (n : ℕ) → n ≤ 8 → getD us n 0 ≡ earlierAt n (take i xs)
+  pub columns : (ts : List Treaty) → ps ≡ numbered ts → Columns ts xs l₀ cs₀ (take i xs) (drop i xs) i g c l cs
+
+-- before the first loss
+module _ (table : ByNumber) (ns l cs : List ℕ) (nine : length (table .places) ≡ 9) (can : CanCede table ns l cs) where
+  pub none-ceded : Ceding (table .places) (lossesFrom ns) (length ns / 3) l cs l cs (map (λ n. 0) eachNumber) 0 0 0
+  none-ceded = record {
+    count = sym (losses-count ns);
+    within = omega arith;
+    few = omega (arith, losses-count ns, can .few);
+    losses = can .losses;
+    terms = can .terms;
+    nine = nine;
+    room = omega (arith, losses-count ns, can .room);
+    same-left = refl;
+    same-sums = refl;
+    nine-sums = can .places;
+    nine-earlier = refl;
+    gross-le = omega arith;
+    ceded-le = omega arith;
+    sums-le = can .amounts;
+    earlier-le = each-of (λ (n : ℕ). 0 ≤ 0) (λ n. zero-le) eachNumber;
+    earlier = at-number (λ n. 0) 0;
+    columns = λ ts e. no-column ts (lossesFrom ns) l cs;
+  }
+
+module _ {ps : List Treaty} {xs : List Loss} {k : ℕ} {l₀ cs₀ l cs us : List ℕ} {g c i : ℕ}
+    (h : Ceding ps xs k l₀ cs₀ l cs us g c i) where
+  -- one loss more
+  module _ (more : i < k) (x : Loss) (is : x ≡ getD xs i (lossOf 0 0 0)) where
+    inside : i < length xs
+    inside = omega (arith, h .count)
+
+    pub loss-in-range : LossInRange x
+    loss-in-range = rw is (each-at LossInRange xs (h .losses) i (lossOf 0 0 0) inside)
+
+    abbrev treaty : Treaty
+    treaty = getD ps (x .treaty) noTreaty
+
+    abbrev u : ℕ
+    u = getD us (x .treaty) 0
+
+    terms-in-range : TermsInRange treaty
+    terms-in-range =
+        each-at TermsInRange ps (h .terms) (x .treaty) noTreaty (omega (arith, h .nine, loss-in-range .treaty))
+
+    pub next-cedable : Cedable treaty u x
+    next-cedable = record {
+      terms = terms-in-range;
+      loss = loss-in-range;
+      earlier = omega (arith, h .few, at-most _ us (h .earlier-le) (x .treaty));
+    }
+
+    -- what is ceded of it by the treaty in its place is what the table cedes
+    ceded-is : (ts : List Treaty) → ps ≡ numbered ts → cededOfLoss treaty u x ≡ cededIn ts (take i xs) x
+    ceded-is ts e =
+        let n = loss-in-range .treaty in
+        rw (e, at-number (withNumber ts) noTreaty (x .treaty) n, h .earlier (x .treaty) n)
+        (sym (ceded-with ts (take i xs) x))
+
+    one-taken : take (suc i) xs ≡ take i xs ++ (x ∷ [])
+    one-taken = rw is (take-suc xs i (lossOf 0 0 0) inside)
+
+    one-dropped : drop i xs ≡ x ∷ drop (suc i) xs
+    one-dropped = rw is (drop-cons xs i (lossOf 0 0 0) inside)
+
+    ceded-le-gross : cededOfLoss treaty u x ≤ x .amount
+    ceded-le-gross = ceded-le-amount treaty u x (terms-in-range .cede)
+
+    one-earlier : (n : ℕ) → n ≤ 8 → getD (set us (x .treaty) (u + x .amount)) n 0 ≡ earlierAt n (take (suc i) xs)
+    one-earlier n high =
+        let now = sum-at us (x .treaty) (x .amount) n (omega (arith, h .nine-earlier)) in
+        rw one-taken (omega (arith, now, h .earlier n high, sum-append (amountAt n) (take i xs) (x ∷ [])))
+
+    pub gross-fits : Fits w64 (g + x .amount)
+    gross-fits = omega (arith, h .few, h .gross-le, loss-in-range .amount)
+
+    module _ (d : Cession) (does : d ≡ cessionOf treaty u x) where
+      ceded-is-le : d .ceded ≤ 10 ^ 13
+      ceded-is-le = rw does (omega (arith, loss-in-range .amount, ceded-le-gross))
+
+      pub ceded-fits : Fits w64 (c + d .ceded)
+      ceded-fits = omega (arith, h .few, h .gross-le, h .ceded-le, ceded-is-le)
+
+      pub sum-fits : Fits w64 (getD cs (x .treaty) 0 + d .ceded)
+      sum-fits = omega (arith, h .few, at-most _ cs (h .sums-le) (x .treaty), ceded-is-le)
+
+      pub one-ceded : Ceding ps xs k l₀ cs₀ (set l i (d .left))
+          (set cs (x .treaty) (getD cs (x .treaty) 0 + d .ceded)) (set us (x .treaty) (d .total))
+          (g + x .amount) (c + d .ceded) (i + 1)
+      one-ceded = rw (does, add-one i) record {
+        count = h .count;
+        within = omega arith;
+        few = h .few;
+        losses = h .losses;
+        terms = h .terms;
+        nine = h .nine;
+        room = omega (arith, h .room, length-set l i (x .amount - cededOfLoss treaty u x));
+        same-left = length-set l i _ ∙ h .same-left;
+        same-sums = length-set cs (x .treaty) _ ∙ h .same-sums;
+        nine-sums = length-set cs (x .treaty) _ ∙ h .nine-sums;
+        nine-earlier = length-set us (x .treaty) _ ∙ h .nine-earlier;
+        gross-le = omega (arith, h .gross-le, loss-in-range .amount);
+        ceded-le = omega (arith, h .ceded-le, ceded-le-gross);
+        sums-le = each-sum _ _ cs (h .sums-le) (x .treaty) _ (omega (arith, loss-in-range .amount, ceded-le-gross));
+        earlier-le = each-sum _ _ us (h .earlier-le) (x .treaty) _ (omega (arith, loss-in-range .amount));
+        earlier = one-earlier;
+        columns = λ ts e. rw one-taken
+            (one-column ts xs l₀ cs₀ (take i xs) x (drop (suc i) xs) i g c l cs (rw one-dropped at (h .columns ts e))
+            (cededOfLoss treaty u x) (ceded-is ts e));
+      }
+
+  -- after the last loss
+  pub all-ceded : k ≤ i → (ts : List Treaty) → ps ≡ numbered ts
+      → CedesEach ts xs l₀ l cs₀ cs (record { gross = g; ceded = c })
+  all-ceded ended ts e =
+      all-columns ts xs l₀ cs₀ (take i xs) i g c l cs
+      (rw (drop-of-length-le xs {i = i} (omega (arith, h .count))) at (h .columns ts e))

@@ -1,0 +1,7 @@
+pub mod Stores
+pub mod Numbers
+pub mod Triples
+pub mod Earlier
+pub mod Added
+pub mod CedePass
+pub mod Lacks

@@ -1,0 +1,82 @@
+// The treaties of a programme by their numbers, and the numbers that it lacks.
+ghost use mathlib.Core.Path.{_≡_};
+ghost use mathlib.Core.Bool.{true};
+ghost use lib.ListN.{length};
+ghost use Rattle.programme.specs.Contracts.{treatiesIn};
+ghost use Rattle.programme.specs.Valid.{validTreaties};
+ghost use Rattle.losses.specs.Table.{numbered, lackingNumbers, tableOf, lackAt};
+use programme::contract;
+use programme::contract::Treaties;
+use treaty::Treaty;
+
+// Place T holds treaty T, and one that cedes nothing where the table has none; so place 0.
+pub struct ByNumber {
+    pub places: [Treaty; 9],
+}
+
+// The treaties by their numbers.
+pub fn by_number(treaties: Treaties) -> ByNumber
+    requires { ⌜ validTreaties treaties ≡ true ⌝ }
+    ensures { λ r. ⌜ r .places ≡ numbered (treatiesIn treaties) ⌝ }
+{
+    let count = treaties.count;
+    let mut places = [contract::no_treaty(); 9];
+    let mut i: usize = 0;
+    while i < count {
+        let t = treaties.places[i];
+        let number = t.number as usize;
+        places[number] = t;
+        i += 1;
+    }
+    ByNumber { places }
+}
+
+// Place T holds 1 for a number T other than 0 that the table lacks, and 0 otherwise.
+pub fn lacking(treaties: Treaties) -> [u64; 9]
+    requires { ⌜ validTreaties treaties ≡ true ⌝ }
+    ensures { λ r. ⌜ r ≡ lackingNumbers (treatiesIn treaties) ⌝ }
+{
+    let count = treaties.count;
+    let mut lacks = [1u64; 9];
+    lacks[0] = 0;
+    let mut i: usize = 0;
+    while i < count {
+        let t = treaties.places[i];
+        let number = t.number as usize;
+        lacks[number] = 0;
+        i += 1;
+    }
+    lacks
+}
+
+// A programme's treaties, with their places by number and the numbers that it lacks.
+pub struct Table {
+    pub treaties: Treaties,
+    pub numbered: ByNumber,
+    pub lacking: [u64; 9],
+}
+
+// The treaties with these.
+pub fn table_of(treaties: Treaties) -> Table
+    requires { ⌜ validTreaties treaties ≡ true ⌝ }
+    ensures { λ r. ⌜ r ≡ tableOf treaties ⌝ }
+{
+    let numbered = by_number(treaties);
+    let lacking = lacking(treaties);
+    Table {
+        treaties,
+        numbered,
+        lacking,
+    }
+}
+
+// 1 for a number other than 0 that the table lacks, 0 otherwise; `lacking` has it for each T up to 8.
+pub fn lacks(lacking: &[u64], number: u64) -> u64
+    requires { ⌜ length (now lacking) ≡ 9 ⌝ }
+    ensures { λ r. ⌜ r ≡ lackAt (now (lacking .entry)) number ⌝ }
+{
+    if number < 9 {
+        return lacking[number as usize];
+    }
+    1
+}
