@@ -1,0 +1,3 @@
+pub mod Keeps
+pub mod Rows
+pub mod Shown

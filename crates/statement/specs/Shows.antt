@@ -1,0 +1,29 @@
+-- Document 01, Events and statement: which numbers, and how many lines of each kind, are those of a statement.
+-- Assumes nothing.
+use mathlib.Core.Path.{_≡_}
+use mathlib.Core.List.{List}
+use Prim.Native.Nat.{ℕ, _+_, _*_, _^_, _≤_, _<_}
+use lib.ListN.{length}
+use Rattle.year.specs.Statement.{Statement, linesShown}
+use Rattle.statement.specs.declared.print.Counts.{Counts}
+use Rattle.statement.specs.Numbers.{numbersOf}
+
+-- how many lines these are, with that of the totals
+abbrev pub linesIn : Counts → ℕ
+linesIn c = c .events + c .treaties + c .risk + c .cat + 1
+
+-- as many numbers as lines of these counts have, with the line of the totals
+pub record Fits (ns : List ℕ) (c : Counts) : Type 0 where
+  pub numbers : length ns ≡ 7 * c .events + 2 * c .treaties + 5 * c .risk + 5 * c .cat + 6
+  pub events : c .events < 2 ^ 16
+  pub treaties : c .treaties ≤ 8
+  pub risk : c .risk ≤ 8
+  pub cat : c .cat ≤ 8
+
+-- the numbers and the counts are those of a statement's lines
+pub record Shows (t : Statement) (ns : List ℕ) (c : Counts) : Type 0 where
+  pub numbers : ns ≡ numbersOf (linesShown t)
+  pub events : c .events ≡ length (t .events)
+  pub treaties : c .treaties ≡ length (t .treaties)
+  pub risk : c .risk ≡ length (t .layers .risk)
+  pub cat : c .cat ≡ length (t .layers .cat)
