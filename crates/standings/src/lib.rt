@@ -1,0 +1,61 @@
+// Standings: a year opened, a standing tested, layers' records from a standing and back.
+ghost use mathlib.Core.Path.{_≡_};
+ghost use mathlib.Core.Bool.{true};
+ghost use Rattle.programme.specs.Contracts.{contractsIn};
+ghost use Rattle.programme.specs.Valid.{valid};
+ghost use Rattle.year.specs.Standing.{fresh, standingPasses, openOf};
+use programme::contract::Programme;
+use programme::valid;
+use year::Opening;
+use year::Standing;
+
+pub mod records;
+pub mod test;
+
+// A fresh year's standing: nothing spent, no day run.
+pub fn fresh() -> Standing
+    ensures { λ r. ⌜ r ≡ fresh ⌝ }
+{
+    Standing {
+        risk: [0; 8],
+        cat: [0; 8],
+        day: 0,
+    }
+}
+
+// Opens a year: refusal 6 where no table text reads to the programme, and the fresh standing in any case.
+pub fn open(programme: Programme) -> Opening
+    ensures { λ r. ⌜ r ≡ openOf programme ⌝ }
+{
+    if valid::holds(programme) {
+        return Opening {
+            refusal: 0,
+            number: 0,
+            standing: fresh(),
+        };
+    }
+    Opening {
+        refusal: 6,
+        number: 0,
+        standing: fresh(),
+    }
+}
+
+// Whether a standing may be run on: no spent amount above its cap or other than 0 for a missing layer, and no day
+// over 366.
+pub fn passes(programme: Programme, standing: Standing) -> bool
+    requires { ⌜ valid programme ≡ true ⌝ }
+    ensures { λ r. ⌜ r ≡ standingPasses (contractsIn programme) standing ⌝ }
+{
+    if 366 < standing.day {
+        return false;
+    }
+    let risk = programme.risk;
+    let cat = programme.cat;
+    let risk_spent = standing.risk;
+    let cat_spent = standing.cat;
+    if test::tier_passes(risk, risk_spent) {
+        return test::tier_passes(cat, cat_spent);
+    }
+    false
+}
