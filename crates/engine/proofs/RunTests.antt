@@ -1,0 +1,66 @@
+-- The tests of a run before its lines: 6, 8 and 9; and the places that its numbers need.
+-- Assumes nothing.
+use mathlib.Core.Path.{_≡_, refl, sym, _∙_}
+use mathlib.Core.Bool.{Bool, true, false}
+use mathlib.Core.List.{List}
+use Prim.Native.Nat.{ℕ, _+_, _*_, _≤_, _<_}
+use native.Mathlib.Omega.{arith}
+use borrow.Author.Tests.{lt-ltb, le-ltb}
+use lib.ListN.{length, replicate, length-replicate}
+use Rattle.programme.specs.declared.contract.Programme.{Programme}
+use Rattle.programme.specs.Contracts.{contractsIn}
+use Rattle.programme.specs.Valid.{valid}
+use Rattle.events.specs.Read.{eventsOf}
+use Rattle.year.specs.declared.Standing.{Standing}
+use Rattle.year.specs.Standing.{standingPasses}
+use Rattle.year.specs.Run.{refused, runFrom, runOf}
+use Rattle.engine.specs.declared.run.Ran.{Ran}
+use Rattle.engine.specs.Run.{ranOf, Told, goneThrough, CanRun, Runs}
+
+-- a place for each number
+pub with-places : (n m z : ℕ) (p : Programme) (s : Standing) (text : List ℕ) → n ≤ 65536 → 7 * n + 1020 ≤ 10 * m
+    → Runs n p s text → CanRun p s text (replicate m z)
+with-places n m z p s text h k r = record {
+  programme = r .programme;
+  standing = r .standing;
+  short = omega (arith, r .short);
+  room = rw (length-replicate m z) (omega (arith, r .short));
+}
+
+module _ (p : Programme) (s : Standing) (text d : List ℕ) (t : Bool) (a : t ≡ valid p) where
+  pub invalid : t ≡ false → (r : Ran) → r ≡ ranOf (refused 6 0) s → Told (runOf p s text (length d)) s d d r
+  unfolding runOf
+  invalid f r e =
+      let six : runOf p s text (length d) ≡ refused 6 0 = simp (runOf, sym a ∙ f) in
+      rw six (e, refl)
+
+  module _ (f : t ≡ true) (u : Bool) (b : u ≡ standingPasses (contractsIn p) s) where
+    from : runOf p s text (length d) ≡ runFrom (contractsIn p) s text (length d)
+    unfolding runOf
+    from = simp (runOf, sym a ∙ f)
+
+    pub not-standing : u ≡ false → (r : Ran) → r ≡ ranOf (refused 8 0) s → Told (runOf p s text (length d)) s d d r
+    unfolding runFrom
+    not-standing g r e =
+        let eight : runFrom (contractsIn p) s text (length d) ≡ refused 8 0 = simp (runFrom, sym b ∙ g) in
+        rw (from, eight) (e, refl)
+
+    module _ (g : u ≡ true) where
+      pub runs : (n : ℕ) → length text ≤ n → Runs n p s text
+      runs n h = record { programme = sym a ∙ f; standing = sym b ∙ g; short = h }
+
+      pub too-long : 65536 < length text → (r : Ran) → r ≡ ranOf (refused 9 0) s
+          → Told (runOf p s text (length d)) s d d r
+      unfolding runFrom eventsOf
+      too-long h r e =
+          let nine : runFrom (contractsIn p) s text (length d) ≡ refused 9 0 =
+          simp (runFrom, sym b ∙ g, eventsOf, lt-ltb 65536 (length text) h) in
+          rw (from, nine) (e, refl)
+
+      pub gone : length text ≤ 65536 → (d′ : List ℕ) (r : Ran) → Told (goneThrough p s text (length d)) s d d′ r
+          → Told (runOf p s text (length d)) s d d′ r
+      unfolding runFrom eventsOf
+      gone h d′ r e =
+          let through : runFrom (contractsIn p) s text (length d) ≡ goneThrough p s text (length d) =
+          simp (runFrom, sym b ∙ g, eventsOf, le-ltb 65536 (length text) h) in
+          rw (from, through) e

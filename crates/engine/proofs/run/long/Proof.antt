@@ -1,0 +1,22 @@
+-- `engine::run::long` meets its contract.
+-- Assumes nothing.
+use borrow.Author.Needs.{needs}
+use lib.Dec.{lit≤}
+use Rattle.engine.proofs.RunTests as law
+use Rattle.engine.proofs.run.long.Statement.{statement}
+use Rattle.engine.proofs.run.long.Tie as tie
+
+slice-aggregate-through : tie.Need-slice-aggregate-through
+slice-aggregate-through c = search needs
+
+through-requires : tie.Need-through-requires
+through-requires c κs = law.with-places 65536 45978 0 _ _ _ (lit≤ tt) (lit≤ tt) (search needs)
+
+same-length : tie.Need-same-length
+same-length c = search needs
+
+returns : tie.Need-returns
+returns c = search needs
+
+pub long-spec : {M : Type 1} → statement M
+long-spec = tie.close (tie.spec slice-aggregate-through through-requires same-length returns)

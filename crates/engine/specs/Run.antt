@@ -1,0 +1,64 @@
+-- Document 01, When a call is turned down: what a run gives back, and what it keeps on the way.
+-- Assumes nothing.
+use mathlib.Core.Bool.{true}
+use mathlib.Core.Path.{_≡_}
+use mathlib.Core.List.{List, [], _++_, map}
+use Prim.Native.Nat.{ℕ, _+_, _*_, _^_, _≤_, _<_}
+use lib.ListN.{length}
+use Rattle.lists.specs.Each.{Each}
+use Rattle.treaty.specs.declared.Treaty.{Treaty}
+use Rattle.layer.specs.Tier.{layersOf}
+use Rattle.programme.specs.declared.contract.Treaties.{Treaties}
+use Rattle.programme.specs.declared.contract.Programme.{Programme}
+use Rattle.programme.specs.Contracts.{treatiesIn, contractsIn}
+use Rattle.programme.specs.Valid.{valid}
+use Rattle.events.specs.Event.{formsOf}
+use Rattle.events.specs.Read.{readFrom}
+use Rattle.year.specs.declared.Standing.{Standing}
+use Rattle.year.specs.Standing.{standingPasses}
+use Rattle.year.specs.Statement.{amountsNumbers, treatyShown, layerLineOf, layersShown}
+use Rattle.year.specs.Run.{Outcome, runThrough, answerOf, bufferAfter, standingAfter}
+use Rattle.statement.specs.Numbers.{numbersOf, cededLine}
+use Rattle.engine.specs.declared.progress.Progress.{Progress}
+use Rattle.engine.specs.declared.run.Ran.{Ran}
+use Rattle.engine.specs.Records.{SoundRecords}
+
+-- the answer of an outcome, and the standing after it
+abbrev pub ranOf : Outcome → Standing → Ran
+ranOf o lent = record { answer = answerOf o; standing = standingAfter o lent }
+
+-- the two equations of a run's promise: what it gives back, and what the buffer d is after it
+abbrev pub Told : Outcome → Standing → (d d′ : List ℕ) → Ran → Type 0
+Told o lent d d′ r = (r ≡ ranOf o lent) × (d′ ≡ bufferAfter o d)
+
+-- what a run that is past 6, 8 and 9 comes to, with a buffer of `room` bytes
+abbrev pub goneThrough : Programme → Standing → (text : List ℕ) (room : ℕ) → Outcome
+goneThrough p s text room =
+    runThrough (contractsIn p) s room (readFrom (treatiesIn (p .treaties)) 1 (s .day) (formsOf text))
+
+-- the numbers of a statement's lines after the events', where place T of cs holds what treaty T cedes in this run
+abbrev pub restNumbers : List Treaty → (cs : List ℕ) → Progress → List ℕ
+restNumbers ts cs p =
+    numbersOf (map treatyShown (map (cededLine cs) ts))
+    ++ (numbersOf (layersShown [] 1 (map layerLineOf (layersOf (p .records .risk))))
+    ++ (numbersOf (layersShown [] 1 (map layerLineOf (layersOf (p .records .cat)))) ++ amountsNumbers (p .total)))
+
+-- what keeping them takes
+pub record CanKeep (t : Treaties) (cs : List ℕ) (p : Progress) : Type 0 where
+  pub count : t .count ≤ 8
+  pub numbers : Each (λ (x : Treaty). x .number < length cs) (treatiesIn t)
+  pub records : SoundRecords (p .records)
+  pub place : p .kept < 2 ^ 31
+
+-- what a run takes that is past 6, 8 and 9: a place for each of the statement's numbers
+pub record CanRun (p : Programme) (s : Standing) (text kept : List ℕ) : Type 0 where
+  pub programme : valid p ≡ true
+  pub standing : standingPasses (contractsIn p) s ≡ true
+  pub short : length text ≤ 65536
+  pub room : 7 * length text + 1020 ≤ 10 * length kept
+
+-- a run of a text of at most n bytes that is past 6, 8 and 9
+pub record Runs (n : ℕ) (p : Programme) (s : Standing) (text : List ℕ) : Type 0 where
+  pub programme : valid p ≡ true
+  pub standing : standingPasses (contractsIn p) s ≡ true
+  pub short : length text ≤ n

@@ -1,0 +1,202 @@
+// A run: the lines of an events text are examined and its events booked, then the statement is measured, then, if it
+// fits, written.
+ghost use mathlib.Core.Path.{_≡_};
+ghost use Prim.Native.Nat.{_+_, _≤_};
+ghost use lib.ListN.{length};
+ghost use Rattle.programme.specs.Contracts.{treatiesIn};
+ghost use Rattle.programme.specs.Valid.{valid};
+ghost use Rattle.text.specs.Buffer.{Put};
+ghost use Rattle.year.specs.Statement.{Statement};
+ghost use Rattle.year.specs.Run.{refused, fitted, runOf, bufferAfter};
+ghost use Rattle.statement.specs.Shows.{Fits, Shows};
+ghost use Rattle.engine.specs.Run.{ranOf, Told, goneThrough, restNumbers, CanKeep, CanRun, Runs};
+use crate::pass;
+use crate::progress::Progress;
+use losses::table;
+use programme::Answer;
+use programme::contract::Programme;
+use programme::contract::Treaties;
+use programme::valid;
+use statement::keep;
+use statement::print;
+use statement::print::Counts;
+use year::Standing;
+
+// What a run gives back: its answer, and the standing after it, which is the one lent where it is refused.
+#[repr(C)]
+pub struct Ran {
+    pub answer: Answer,
+    pub standing: Standing,
+}
+
+// A refusal with its second number.
+fn refused(refusal: u64, number: u64, lent: Standing) -> Ran
+    ensures { λ r. ⌜ r ≡ ranOf (refused refusal number) lent ⌝ }
+{
+    Ran {
+        answer: Answer { refusal, number },
+        standing: lent,
+    }
+}
+
+// The numbers of the lines after the events': of treaties, risk layers, catastrophe layers and totals.
+fn keep_rest(kept: &mut [u64], treaties: Treaties, cessions: &[u64], progress: Progress) -> usize
+    requires { ⌜ CanKeep treaties (now cessions) progress ⌝ }
+    ensures { λ r. ⌜ Put (now (kept .entry)) (progress .kept)
+        (restNumbers (treatiesIn treaties) (now (cessions .entry)) progress) (now (kept .exit)) r
+        × (r ≤ progress .kept + 102) ⌝ }
+{
+    let records = progress.records;
+    let total = progress.total;
+    let risk = keep::keep_treaties(kept, progress.kept, treaties, cessions);
+    let cat = keep::keep_layers(kept, risk, records.risk);
+    let last = keep::keep_layers(kept, cat, records.cat);
+    scratch::keep(
+        kept,
+        last,
+        &[
+            total.gross,
+            total.ceded,
+            total.risk,
+            total.cat,
+            total.net,
+            total.premium,
+        ],
+    )
+}
+
+// The statement of the numbers kept: measured, and written if it fits.
+fn write_measured(
+    numbers: &[u64],
+    counts: Counts,
+    lent: Standing,
+    after: Standing,
+    buffer: &mut [u8],
+) -> Ran
+    requires { ⌜ Fits (now numbers) counts ⌝ }
+    ensures { λ r. ⌜ ((t : Statement) → Shows t (now (numbers .entry)) counts
+        → Told (fitted (length (now (buffer .entry))) t after) lent (now (buffer .entry)) (now (buffer .exit)) r) ⌝ }
+{
+    let needed = print::put_statement(&mut buffer[..0], numbers, counts);
+    if buffer.len() < needed {
+        return refused(7, needed as u64, lent);
+    }
+    print::put_statement(buffer, numbers, counts);
+    Ran {
+        answer: Answer {
+            refusal: 0,
+            number: needed as u64,
+        },
+        standing: after,
+    }
+}
+
+// The same. A line has at most 1,600 bytes whatever its numbers are: a statement of few lines surely fits, and need
+// not be measured first.
+fn write(numbers: &[u64], counts: Counts, lent: Standing, after: Standing, buffer: &mut [u8]) -> Ran
+    requires { ⌜ Fits (now numbers) counts ⌝ }
+    ensures { λ r. ⌜ ((t : Statement) → Shows t (now (numbers .entry)) counts
+        → Told (fitted (length (now (buffer .entry))) t after) lent (now (buffer .entry)) (now (buffer .exit)) r) ⌝ }
+{
+    let lines = counts.events + counts.treaties + counts.risk + counts.cat + 1;
+    if 1600 * lines <= buffer.len() {
+        let length = print::put_statement(buffer, numbers, counts);
+        return Ran {
+            answer: Answer {
+                refusal: 0,
+                number: length as u64,
+            },
+            standing: after,
+        };
+    }
+    write_measured(numbers, counts, lent, after, buffer)
+}
+
+// A run that is past 6, 8 and 9, with places for the statement's numbers.
+fn through(
+    programme: Programme,
+    standing: Standing,
+    events: &[u8],
+    buffer: &mut [u8],
+    kept: &mut [u64],
+) -> Ran
+    requires { ⌜ CanRun programme standing (now events) (now kept) ⌝ }
+    ensures { λ r. ⌜ Told (goneThrough programme standing (now (events .entry)) (length (now (buffer .entry))))
+        standing (now (buffer .entry)) (now (buffer .exit)) r ⌝ }
+{
+    let treaties = programme.treaties;
+    let table = table::table_of(treaties);
+    let start = Progress::first(programme, standing);
+    let mut cessions = [0u64; 9];
+    let passed = pass::pass(events, table, start, kept, &mut cessions);
+    let refusal = passed.refusal;
+    if refusal != 0 {
+        return refused(refusal, passed.line, standing);
+    }
+    let progress = passed.progress;
+    let counts = Counts {
+        events: progress.kept / 7,
+        treaties: treaties.count,
+        risk: programme.risk.count,
+        cat: programme.cat.count,
+    };
+    let end = keep_rest(kept, treaties, &cessions, progress);
+    let after = progress.standing();
+    write(&kept[..end], counts, standing, after, buffer)
+}
+
+// The same with places for a text of at most 1,024 bytes, so that a short text does not pay for a long one.
+fn short(programme: Programme, standing: Standing, events: &[u8], buffer: &mut [u8]) -> Ran
+    requires { ⌜ Runs 1024 programme standing (now events) ⌝ }
+    ensures { λ r. ⌜ Told (goneThrough programme standing (now (events .entry)) (length (now (buffer .entry))))
+        standing (now (buffer .entry)) (now (buffer .exit)) r ⌝ }
+{
+    let mut kept = [0u64; 819];
+    through(programme, standing, events, buffer, &mut kept)
+}
+
+// For one of at most 8,192 bytes.
+fn medium(programme: Programme, standing: Standing, events: &[u8], buffer: &mut [u8]) -> Ran
+    requires { ⌜ Runs 8192 programme standing (now events) ⌝ }
+    ensures { λ r. ⌜ Told (goneThrough programme standing (now (events .entry)) (length (now (buffer .entry))))
+        standing (now (buffer .entry)) (now (buffer .exit)) r ⌝ }
+{
+    let mut kept = [0u64; 5837];
+    through(programme, standing, events, buffer, &mut kept)
+}
+
+// For one of at most 65,536 bytes.
+fn long(programme: Programme, standing: Standing, events: &[u8], buffer: &mut [u8]) -> Ran
+    requires { ⌜ Runs 65536 programme standing (now events) ⌝ }
+    ensures { λ r. ⌜ Told (goneThrough programme standing (now (events .entry)) (length (now (buffer .entry))))
+        standing (now (buffer .entry)) (now (buffer .exit)) r ⌝ }
+{
+    let mut kept = [0u64; 45978];
+    through(programme, standing, events, buffer, &mut kept)
+}
+
+// Runs an events text under a programme, from a standing on.
+pub fn run(programme: Programme, standing: Standing, events: &[u8], buffer: &mut [u8]) -> Ran
+    ensures { λ r. ⌜ (r
+        ≡ ranOf (runOf programme standing (now (events .entry)) (length (now (buffer .entry)))) standing)
+        × (now (buffer .exit)
+        ≡ bufferAfter (runOf programme standing (now (events .entry)) (length (now (buffer .entry))))
+        (now (buffer .entry))) ⌝ }
+{
+    if valid::holds(programme) {} else {
+        return refused(6, 0, standing);
+    }
+    if standings::passes(programme, standing) {} else {
+        return refused(8, 0, standing);
+    }
+    if 65536 < events.len() {
+        return refused(9, 0, standing);
+    }
+    if events.len() <= 1024 {
+        return short(programme, standing, events, buffer);
+    }
+    if events.len() <= 8192 {
+        return medium(programme, standing, events, buffer);
+    }
+    long(programme, standing, events, buffer)
+}
