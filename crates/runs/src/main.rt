@@ -1,0 +1,14 @@
+// Runs tried at their boundaries: a line a case, and after it the statement of an accepted run. They are held to an
+// output that is made from document 01 alone. The cases are on standard input, at most 65,536 bytes, as `list::cases`
+// takes them.
+use libc::STDIN_FILENO;
+
+mod case;
+mod list;
+mod show;
+
+fn main() {
+    let mut text = io::large_buffer();
+    let size = io::read_full(STDIN_FILENO, &mut text);
+    list::cases(&text[..size]);
+}
