@@ -1,0 +1,206 @@
+//! The checked figures of document 01, typed from the paper, put to the second calculation. Says what is wrong and
+//! ends with status 1 when a figure differs.
+
+mod calculation;
+
+use calculation::{open, printed, read_table, run, take_over, write_table, Programme, Refusal, Spent, Standing};
+
+const SIDNEY_TABLE: &str = "\
+(cat (band 25000000 75000000) (deduct 75000000) (back 0 0 0) (placed 10000))
+(cat (band 100000000 150000000) (deduct 0) (back 1 5000 75000000) (placed 8000))
+(cat (band 250000000 150000000) (deduct 0) (back 1 10000 30000000) (placed 7200))
+";
+
+const SIDNEY_STATEMENT: &str = "\
+(event 230 (gross 350000000) (ceded 0) (risk 0) (cat 192000000) (net 158000000) (premium 44400000))
+(layer cat 1 (deductible 0) (cover 75000000) (recovered 0) (premium 0))
+(layer cat 2 (deductible 0) (cover 150000000) (recovered 120000000) (premium 30000000))
+(layer cat 3 (deductible 0) (cover 200000000) (recovered 72000000) (premium 14400000))
+(total (gross 350000000) (ceded 0) (risk 0) (cat 192000000) (net 158000000) (premium 44400000))
+";
+
+struct Checks {
+    made: u64,
+    failed: u64,
+}
+
+impl Checks {
+    fn equal<T: PartialEq + std::fmt::Debug>(&mut self, name: &str, found: T, expected: T) {
+        self.made += 1;
+        if found != expected {
+            self.failed += 1;
+            eprintln!("figures: {name}: found {found:?}, expected {expected:?}");
+        }
+    }
+
+    fn refused(&mut self, name: &str, table: &str, events: &str, refusal: u64, second: u64) {
+        let expected = format!("(refused {refusal} {second})\n");
+        self.equal(name, program(table, events), expected);
+    }
+}
+
+fn program(table: &str, events: &str) -> String {
+    String::from_utf8(printed(Some(table.as_bytes()), events.as_bytes())).unwrap()
+}
+
+/// The numbers under a name, one from each line that begins with the word.
+fn column(statement: &str, line: &str, name: &str) -> Vec<u64> {
+    let item = format!("({name} ");
+    let lines = statement.lines().filter(|text| text.starts_with(line));
+    let after = lines.map(|text| text.split_once(&item).unwrap().1);
+    after.map(|rest| rest.split_once(')').unwrap().0.parse().unwrap()).collect()
+}
+
+/// An event with one loss for each pair of estimated maximum loss and amount.
+fn event(treaty: u64, losses: &[(u64, u64)]) -> String {
+    let forms: String = losses.iter().map(|(most, amount)| format!(" (loss {treaty} {most} {amount})")).collect();
+    format!("(event 1{forms})\n")
+}
+
+/// What a treaty cedes of losses that are each an event of its own.
+fn ceded(table: &str, losses: &[(u64, u64)]) -> Vec<u64> {
+    let events: String = losses.iter().map(|loss| event(1, &[*loss])).collect();
+    column(&program(table, &events), "(event", "ceded")
+}
+
+/// The year's figure after each subject amount in turn, as the recoveries or premiums of one risk layer.
+fn from_layer(table: &str, subjects: &[u64], name: &str) -> Vec<u64> {
+    let events: String = subjects.iter().map(|subject| event(0, &[(1, *subject)])).collect();
+    column(&program(table, &events), "(event", name)
+}
+
+fn treaties(checks: &mut Checks) {
+    let plain = "(quota 1 (cede 4000) (capacity 0) (event 0))\n";
+    checks.equal("C1", ceded(plain, &[(101, 101)]), vec![40]);
+    let capacity = "(quota 1 (cede 4000) (capacity 20000) (event 0))\n";
+    checks.equal("C2", ceded(capacity, &[(25_000, 10_000)]), vec![3_200]);
+    checks.equal("C3", ceded(capacity, &[(20_000, 10_000)]), vec![4_000]);
+    let limited = "(quota 1 (cede 4000) (capacity 0) (event 15000))\n";
+    let loss = (10_000, 10_000);
+    for (count, total) in [(1, 4_000), (2, 6_000), (3, 6_000)] {
+        let statement = program(limited, &event(1, &vec![loss; count]));
+        checks.equal("C4", column(&statement, "(treaty 1", "ceded"), vec![total]);
+    }
+    checks.equal("a new event begins again at 0", ceded(limited, &[loss, loss]), vec![4_000, 4_000]);
+    let surplus = "(surplus 1 (retain 10000) (lines 3) (event 0))\n";
+    let losses = [(10_000, 10_000), (10_001, 10_001), (40_000, 8_000), (50_000, 8_000)];
+    checks.equal("C5 to C8", ceded(surplus, &losses), vec![0, 1, 6_000, 4_800]);
+}
+
+fn layers(checks: &mut Checks) {
+    let attached = "(risk (band 50 100) (deduct 0) (back 0 0 0) (placed 10000))\n";
+    checks.equal("L1", from_layer(attached, &[50, 51], "risk"), vec![0, 1]);
+    let half = "(risk (band 0 100) (deduct 0) (back 0 0 0) (placed 5000))\n";
+    checks.equal("L2", from_layer(half, &[1, 1], "risk"), vec![0, 1]);
+    let reinstated = "(risk (band 0 100) (deduct 0) (back 1 10000 1000) (placed 10000))\n";
+    checks.equal("L3", from_layer(reinstated, &[100, 50, 50], "premium"), vec![1_000, 0, 0]);
+    let deducted = "(risk (band 500000 500000) (deduct 1000000) (back 1 0 0) (placed 10000))\n";
+    let losses = [750_000, 2_000_000, 1_000_000, 250_000, 1_000_000];
+    checks.equal("L4", from_layer(deducted, &losses, "risk"), vec![0, 0, 250_000, 0, 500_000]);
+    let sidney = program(SIDNEY_TABLE, "(event 230 (loss 0 350000000 350000000))\n");
+    checks.equal("H1", sidney.as_str(), SIDNEY_STATEMENT);
+}
+
+fn band(attachment: u64, limit: u64) -> String {
+    format!("(risk (band {attachment} {limit}) (deduct 0) (back 0 0 0) (placed 10000))\n")
+}
+
+fn refused_tables(checks: &mut Checks) {
+    let accepted = |table: &str| read_table(table.as_bytes()).is_ok();
+    checks.equal("bands 50 50 then 100 1", accepted(&(band(50, 50) + &band(100, 1))), true);
+    checks.refused("bands 50 50 then 99 1", &(band(50, 50) + &band(99, 1)), "", 5, 2);
+    checks.refused("table over 8,192 bytes", &"x".repeat(8_193), "", 1, 0);
+    checks.refused("table of 8,192 bytes", &"x".repeat(8_192), "", 2, 1);
+    checks.refused("form before range", "(quota 9 (cede 01) (capacity 0) (event 0))\n", "", 2, 1);
+    checks.refused("treaty 9", "(quota 9 (cede 0) (capacity 0) (event 0))\n", "", 3, 1);
+    checks.refused("limit 0", &band(5, 0), "", 3, 1);
+    let quota = "(quota 1 (cede 0) (capacity 0) (event 0))\n";
+    checks.refused("treaty after a layer", &(band(5, 1) + quota), "", 4, 2);
+    checks.refused("treaty number repeated", &quota.repeat(2), "", 4, 2);
+    let nine: String = (0..9).map(|place| band(place, 1)).collect();
+    checks.refused("ninth layer", &nine, "", 4, 9);
+    checks.refused("ninth layer below the eighth", &(nine[..nine.len() / 9 * 8].to_string() + &band(0, 1)), "", 4, 9);
+    checks.refused("no line feed", "(quota 1 (cede 0) (capacity 0) (event 0))", "", 2, 1);
+}
+
+fn refused_events(checks: &mut Checks) {
+    let total = "(total (gross 0) (ceded 0) (risk 0) (cat 0) (net 0) (premium 0))\n";
+    checks.equal("empty texts", program("", "").as_str(), total);
+    checks.equal("day 366", program("", "(event 366)\n").starts_with("(event 366 (gross 0)"), true);
+    checks.refused("day 367", "", "(event 367)\n", 11, 1);
+    checks.equal("64 losses", program("", &event(0, &[(1, 1); 64])).starts_with("(event 1 (gross 64)"), true);
+    checks.refused("65 losses", "", &event(0, &[(1, 1); 65]), 12, 1);
+    let last_out_of_range = event(0, &[(1, 1); 65]).replace("1))", "10000000000001))");
+    checks.refused("65 losses, the last out of range", "", &last_out_of_range, 11, 1);
+    checks.refused("seventeen digits", "", "(event 10000000000000000)\n", 10, 1);
+    checks.refused("a day back", "", "(event 2)\n(event 1)\n", 13, 2);
+    checks.refused("a treaty that is not there", "", "(event 1 (loss 8 1 1))\n", 14, 1);
+    checks.refused("a day back with such a treaty", "", "(event 2)\n(event 1 (loss 8 1 1))\n", 13, 2);
+    checks.refused("the first line decides", "", "(event 1 (loss 8 1 1))\nx", 14, 1);
+    checks.refused("events over 65,536 bytes", "", &"x".repeat(65_537), 9, 0);
+    let event_line = total.replace("(total", "(event 1");
+    let needed = (1_000 * event_line.len() + total.len()) as u64;
+    checks.refused("statement over the buffer", "", &"(event 1)\n".repeat(1_000), 7, needed);
+}
+
+/// Programmes and standings that no reading or run hands over.
+fn refused_records(checks: &mut Checks) {
+    let programme = read_table(SIDNEY_TABLE.as_bytes()).unwrap();
+    checks.equal("written as read", write_table(&programme), SIDNEY_TABLE.as_bytes().to_vec());
+    let mut broken = programme.clone();
+    broken.cat[1].attachment -= 1;
+    checks.equal("opening a broken programme", open(&broken), Err((6, 0)));
+    let mut standing = Standing::default();
+    checks.equal("running it", run(&broken, &mut standing, b"x", &mut []), Err((6, 0)));
+    let cat = [150_000_000, 300_000_000, 300_000_000, 0, 0, 0, 0, 0];
+    let mut spent = Spent { cat, day: 366, ..Spent::default() };
+    checks.equal("each spent amount at its cap", take_over(&programme, &spent).is_ok(), true);
+    spent.day = 367;
+    checks.equal("day 367 in a standing", take_over(&programme, &spent), Err((8, 0)));
+    spent.day = 0;
+    spent.cat[0] += 1;
+    checks.equal("a spent amount above its cap", take_over(&programme, &spent), Err((8, 0)));
+    standing.risk[0] = 1;
+    checks.equal("a missing layer's sum", run(&programme, &mut standing, b"x", &mut []), Err((8, 0)));
+}
+
+/// Runs the texts one after the other; each answer is the statement or the refusal.
+fn history(programme: &Programme, texts: &[&str]) -> (Standing, Vec<Result<String, Refusal>>) {
+    let mut standing = open(programme).unwrap();
+    let mut answers = Vec::new();
+    for text in texts {
+        let mut buffer = [0; 2_000];
+        let answer = run(programme, &mut standing, text.as_bytes(), &mut buffer);
+        answers.push(answer.map(|length| String::from_utf8(buffer[..length].to_vec()).unwrap()));
+    }
+    (standing, answers)
+}
+
+/// A year run by run has the lines of the year in one run, and a refused run changes nothing.
+fn histories(checks: &mut Checks) {
+    let programme = read_table(SIDNEY_TABLE.as_bytes()).unwrap();
+    let lines = ["(event 100 (loss 0 9 110000001))\n", "(event 230 (loss 0 9 350000003))\n", "(event 231)\n"];
+    let (whole, whole_answers) = history(&programme, &[&lines.concat()]);
+    let (parts, part_answers) = history(&programme, &[lines[0], "(event 99)\n", lines[1], "", lines[2]]);
+    checks.equal("standing after runs", parts, whole);
+    checks.equal("a refused run", part_answers[1].clone(), Err((13, 1)));
+    let whole_text = whole_answers[0].clone().unwrap();
+    let texts: Vec<String> = part_answers.into_iter().flatten().collect();
+    let select = |text: &str, word: &str| -> String {
+        text.split_inclusive('\n').filter(|line| line.starts_with(word)).collect()
+    };
+    checks.equal("event lines of the runs", select(&texts.concat(), "(event"), select(&whole_text, "(event"));
+    checks.equal("layer lines of the last run", select(&texts[3], "(layer"), select(&whole_text, "(layer"));
+}
+
+fn main() {
+    let mut checks = Checks { made: 0, failed: 0 };
+    treaties(&mut checks);
+    layers(&mut checks);
+    refused_tables(&mut checks);
+    refused_events(&mut checks);
+    refused_records(&mut checks);
+    histories(&mut checks);
+    println!("figures: {} compared, {} differ", checks.made, checks.failed);
+    std::process::exit(i32::from(checks.failed > 0));
+}

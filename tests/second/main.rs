@@ -1,0 +1,20 @@
+//! The engine's program over the second calculation: the table from programme.txt in the current folder, events from
+//! standard input, the statement or the refusal on standard output.
+
+mod calculation;
+
+use std::fs::File;
+use std::io::{self, Read, Write};
+
+/// Reads one byte more than the most that is accepted, so that a longer text shows.
+fn text(source: impl Read, most: usize) -> io::Result<Vec<u8>> {
+    let mut text = Vec::with_capacity(most + 1);
+    source.take(most as u64 + 1).read_to_end(&mut text)?;
+    Ok(text)
+}
+
+fn main() -> io::Result<()> {
+    let table = File::open("programme.txt").and_then(|file| text(file, calculation::TABLE_BYTES));
+    let events = text(io::stdin(), calculation::EVENTS_BYTES)?;
+    io::stdout().write_all(&calculation::printed(table.as_deref().ok(), &events))
+}

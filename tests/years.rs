@@ -1,0 +1,177 @@
+//! Random years: runs a program on each and compares what it prints, byte for byte, with the second calculation.
+//! Called as `years PROGRAM SEED COUNT`. Ends with status 1 at the first difference, and when the years of the seed
+//! do not reach all that they should.
+
+#[path = "second/calculation.rs"]
+mod calculation;
+#[path = "years/cases.rs"]
+mod cases;
+#[path = "years/damage.rs"]
+mod damage;
+#[path = "years/draw.rs"]
+mod draw;
+#[path = "years/random.rs"]
+mod random;
+
+use cases::{Case, Cases, File};
+use std::collections::BTreeMap;
+use std::io::{self, Write};
+use std::path::{Path, PathBuf};
+use std::process::{exit, Command, Stdio};
+use std::{env, fs};
+
+/// The refusals that the program can show.
+const REFUSALS: [u64; 13] = [0, 1, 2, 3, 4, 5, 7, 9, 10, 11, 12, 13, 14];
+
+/// Of a hundred years, how many have cessions, recoveries of both tiers and premium.
+const LEAST_FULL_YEARS: usize = 40;
+
+/// How much of a long text is shown.
+const SHOWN_BYTES: usize = 4_000;
+
+/// What the years compared so far have reached.
+#[derive(Default)]
+struct Tally {
+    compared: usize,
+    accepted: usize,
+    refused: BTreeMap<u64, usize>,
+    ceded: usize,
+    risk: usize,
+    cat: usize,
+    premium: usize,
+    all: usize,
+}
+
+impl Tally {
+    fn count(&mut self, printed: &[u8]) {
+        self.compared += 1;
+        let Some(amounts) = cases::totals(printed) else {
+            let text = String::from_utf8_lossy(printed);
+            let refusal = text.split(' ').nth(1).and_then(|number| number.parse().ok());
+            *self.refused.entry(refusal.unwrap_or(u64::MAX)).or_default() += 1;
+            return;
+        };
+        self.accepted += 1;
+        self.ceded += usize::from(amounts[1] > 0);
+        self.risk += usize::from(amounts[2] > 0);
+        self.cat += usize::from(amounts[3] > 0);
+        self.premium += usize::from(amounts[5] > 0);
+        self.all += usize::from(cases::has_all(printed));
+    }
+
+    fn print(&self, seed: u64) {
+        print!("years: seed {seed}, {} compared: accepted {}", self.compared, self.accepted);
+        for (refusal, count) in &self.refused {
+            print!(", {refusal}: {count}");
+        }
+        print!("; above 0: ceded {}, risk {}, cat {}, premium {}", self.ceded, self.risk, self.cat, self.premium);
+        println!(", all four {}", self.all);
+    }
+
+    /// What the years should have reached and did not.
+    fn missing(&self) -> Vec<String> {
+        let unseen = REFUSALS.iter().filter(|refusal| !self.refused.contains_key(refusal));
+        let mut missing: Vec<String> = unseen.map(|refusal| format!("no year refused with {refusal}")).collect();
+        if self.all * 100 < self.compared * LEAST_FULL_YEARS {
+            missing.push("too few years with cessions, recoveries of both tiers and premium".to_string());
+        }
+        missing
+    }
+}
+
+/// Puts the case's texts into the folder.
+fn lay_out(folder: &Path, case: &Case) -> io::Result<()> {
+    if folder.exists() {
+        fs::remove_dir_all(folder)?;
+    }
+    fs::create_dir_all(folder)?;
+    fs::write(folder.join("events.txt"), &case.events)?;
+    match &case.file {
+        File::Text(text) => fs::write(folder.join("programme.txt"), text),
+        File::Folder => fs::create_dir(folder.join("programme.txt")),
+        File::Missing => Ok(()),
+    }
+}
+
+/// Runs the program in the folder. Events come from a file or through a pipe, which gives them in pieces.
+fn run(program: &Path, folder: &Path, events: &[u8], piped: bool) -> io::Result<Vec<u8>> {
+    let mut command = Command::new(program);
+    command.current_dir(folder).stdout(Stdio::piped());
+    if piped {
+        command.stdin(Stdio::piped());
+    } else {
+        command.stdin(fs::File::open(folder.join("events.txt"))?);
+    }
+    let mut child = command.spawn()?;
+    if let Some(mut pipe) = child.stdin.take() {
+        // A program that refuses the table need not read the events.
+        for piece in events.chunks(40_000) {
+            if pipe.write_all(piece).is_err() {
+                break;
+            }
+        }
+    }
+    let output = child.wait_with_output()?;
+    match output.status.code() {
+        Some(0) => Ok(output.stdout),
+        _ => Err(io::Error::other(format!("the program failed: {}", output.status))),
+    }
+}
+
+fn show(name: &str, text: &[u8]) {
+    let shown = &text[..text.len().min(SHOWN_BYTES)];
+    println!("--- {name}, {} bytes\n{}", text.len(), shown.escape_ascii().to_string().replace("\\n", "\\n\n"));
+}
+
+fn report(folder: &Path, case: &Case, expected: &[u8], found: &io::Result<Vec<u8>>) {
+    match case.table() {
+        Some(table) => show("table", table),
+        None => println!("--- no table"),
+    }
+    show("events", &case.events);
+    show("second calculation", expected);
+    match found {
+        Ok(found) => show("program", found),
+        Err(error) => println!("--- program: {error}"),
+    }
+    println!("--- the whole texts are in {}", folder.display());
+}
+
+fn usage() -> ! {
+    eprintln!("years: call as years PROGRAM SEED COUNT");
+    exit(2);
+}
+
+fn arguments() -> Option<(PathBuf, u64, usize)> {
+    let arguments: Vec<String> = env::args().skip(1).collect();
+    let [program, seed, count] = arguments.as_slice() else {
+        return None;
+    };
+    Some((fs::canonicalize(program).ok()?, seed.parse().ok()?, count.parse().ok()?))
+}
+
+fn main() -> io::Result<()> {
+    let Some((program, seed, count)) = arguments() else { usage() };
+    let folder = env::current_exe()?.with_file_name(format!("years-{}", std::process::id()));
+    let mut cases = Cases::new(seed);
+    let mut tally = Tally::default();
+    for number in 1..=count {
+        let case = cases.next();
+        let expected = case.expected();
+        lay_out(&folder, &case)?;
+        let found = run(&program, &folder, &case.events, number % 2 == 0);
+        if !matches!(&found, Ok(found) if *found == expected) {
+            println!("years: seed {seed}, case {number} differs");
+            report(&folder, &case, &expected, &found);
+            exit(1);
+        }
+        tally.count(&expected);
+    }
+    fs::remove_dir_all(&folder)?;
+    tally.print(seed);
+    let missing = tally.missing();
+    for line in &missing {
+        println!("years: {line}");
+    }
+    exit(i32::from(!missing.is_empty()));
+}

@@ -1,0 +1,272 @@
+//! The cases in turn: years that are accepted, the ends of every range, texts at their greatest length, and damage.
+
+use crate::calculation::{printed, EVENTS_BYTES, TABLE_BYTES};
+use crate::damage::{self, Fault};
+use crate::draw::{self, line, Lines, Table};
+use crate::random::Random;
+
+/// What stands under the name programme.txt.
+pub enum File {
+    Text(Vec<u8>),
+    Missing,
+    Folder,
+}
+
+pub struct Case {
+    pub file: File,
+    pub events: Vec<u8>,
+}
+
+impl Case {
+    pub fn table(&self) -> Option<&[u8]> {
+        match &self.file {
+            File::Text(text) => Some(text),
+            File::Missing | File::Folder => None,
+        }
+    }
+
+    pub fn expected(&self) -> Vec<u8> {
+        printed(self.table(), &self.events)
+    }
+}
+
+/// The amounts of a statement's total line: gross, ceded, risk, cat, net, premium. None for a refusal.
+pub fn totals(statement: &[u8]) -> Option<Vec<u64>> {
+    let text = std::str::from_utf8(statement).ok()?;
+    let total = text.lines().last()?.strip_prefix("(total")?;
+    Some(total.split(|byte: char| !byte.is_ascii_digit()).filter_map(|digits| digits.parse().ok()).collect())
+}
+
+/// Whether a statement has something ceded, recoveries of both tiers and premium.
+pub fn has_all(statement: &[u8]) -> bool {
+    totals(statement).is_some_and(|amounts| [1, 2, 3, 5].iter().all(|place| amounts[*place] > 0))
+}
+
+fn text_case(table: &Lines, events: &Lines) -> Case {
+    Case { file: File::Text(table.concat()), events: events.concat() }
+}
+
+/// One number of one form at or past an end of its range.
+struct Edge {
+    line: &'static str,
+    number: usize,
+    value: u64,
+}
+
+const FORMS: [&str; 5] = [
+    "(quota 3 (cede 4000) (capacity 20000) (event 15000))",
+    "(surplus 3 (retain 10000) (lines 3) (event 30000))",
+    "(risk (band 500 1000) (deduct 300) (back 1 10000 250) (placed 7200))",
+    "(cat (band 2000 9000) (deduct 100) (back 2 5000 777) (placed 3333))",
+    "(event 40 (loss 3 12000 11000))",
+];
+
+/// The last two values have sixteen digits and seventeen.
+fn edges() -> Vec<Edge> {
+    let mut edges = Vec::new();
+    for line in FORMS {
+        for (number, (low, high)) in damage::ranges(line.as_bytes()).into_iter().enumerate() {
+            let values = [low.saturating_sub(1), low, high, high + 1, 9_999_999_999_999_999, 10_000_000_000_000_000];
+            edges.extend(values.map(|value| Edge { line, number, value }));
+        }
+    }
+    edges
+}
+
+pub struct Cases {
+    random: Random,
+    made: usize,
+    round: usize,
+    edges: Vec<Edge>,
+    next_edge: usize,
+}
+
+impl Cases {
+    pub fn new(seed: u64) -> Self {
+        let mut random = Random(seed);
+        let edges = edges();
+        let next_edge = random.place(edges.len());
+        Cases { random, made: 0, round: 0, edges, next_edge }
+    }
+
+    /// Every case of fifty in turn, so that each kind comes again and again.
+    pub fn next(&mut self) -> Case {
+        self.made += 1;
+        self.round = self.made / 50;
+        match self.made % 50 {
+            1 => self.damaged_table(damage::form),
+            2 => self.damaged_table(damage::range),
+            3 => self.damaged_table(damage::order),
+            4 => self.damaged_table(damage::band),
+            5 => self.damaged_table(damage::table_line),
+            6 => self.damaged_table(damage::line_ends),
+            7 => self.damaged_table(damage::bytes),
+            8 => self.damaged_events(damage::form),
+            9 => self.damaged_events(damage::range),
+            10 => self.damaged_events(damage::count),
+            11 => self.damaged_events(damage::day),
+            12 => self.damaged_events(damage::treaty),
+            13 | 14 => self.damaged_events(damage::events_line),
+            15 => self.damaged_events(damage::line_ends),
+            16 => self.damaged_events(damage::bytes),
+            17..=21 => self.edge(),
+            22 => self.full_events(),
+            23 => self.full_statement(),
+            24 => self.full_table(),
+            25 => self.without(),
+            26 => self.largest(),
+            27 => self.damaged_table(damage::ninth),
+            _ => self.year(),
+        }
+    }
+
+    fn scale(&mut self) -> u64 {
+        self.random.pick(&[3, 100, 10_000, 10_000, 1_000_000, 1_000_000_000, 1_000_000_000_000, draw::LARGEST_AMOUNT])
+    }
+
+    fn draw(&mut self, events: usize) -> (Table, Lines) {
+        let scale = self.scale();
+        let table = draw::table(&mut self.random, scale);
+        let events = draw::events(&mut self.random, scale, &table, events);
+        (table, events)
+    }
+
+    /// A year that is accepted; one with cessions, recoveries of both tiers and premium if one comes up soon.
+    fn year(&mut self) -> Case {
+        let mut tries = 12;
+        loop {
+            let count = self.random.pick(&[1, 2, 3, 5, 8, 13, 21]);
+            let (table, events) = self.draw(count);
+            let case = text_case(&table.lines, &events);
+            tries -= 1;
+            if tries == 0 || has_all(&case.expected()) {
+                return case;
+            }
+        }
+    }
+
+    /// A fault in some line of the table, at times with others of any kind, and at times with events at fault too.
+    fn damaged_table(&mut self, fault: Fault) -> Case {
+        let (table, mut events) = self.draw(3);
+        let mut lines = table.lines;
+        self.damage(&mut lines, fault, &[damage::form, damage::range, damage::order, damage::band, damage::bytes]);
+        if self.round % 4 == 1 {
+            self.damage(&mut events, damage::form, &[damage::bytes]);
+        }
+        text_case(&lines, &events)
+    }
+
+    fn damaged_events(&mut self, fault: Fault) -> Case {
+        let (table, mut events) = self.draw(7);
+        let others = [damage::form, damage::range, damage::count, damage::day, damage::treaty];
+        self.damage(&mut events, fault, &others);
+        text_case(&table.lines, &events)
+    }
+
+    /// One fault, and in every second round at times others on the same line or on another, above it or below.
+    fn damage(&mut self, lines: &mut Lines, fault: Fault, others: &[Fault]) {
+        if lines.is_empty() {
+            lines.push(Vec::new());
+        }
+        let alone = self.round % 2 == 0;
+        let place = self.random.place(lines.len());
+        if !alone && self.random.one_in(3) {
+            self.random.pick(others)(&mut self.random, lines, place);
+        }
+        let place = place.min(lines.len() - 1);
+        fault(&mut self.random, lines, place);
+        while !alone && self.random.one_in(2) {
+            let place = self.random.place(lines.len());
+            self.random.pick(others)(&mut self.random, lines, place);
+        }
+    }
+
+    /// The next edge in turn, in a table that has one line of each other kind.
+    fn edge(&mut self) -> Case {
+        let edge = &self.edges[self.next_edge];
+        self.next_edge = (self.next_edge + 1) % self.edges.len();
+        let mut table: Lines = Vec::new();
+        let treaty = if edge.line == FORMS[1] { FORMS[1] } else { FORMS[0] };
+        for form in [treaty, FORMS[2], FORMS[3], FORMS[4]] {
+            let mut text = line(form.to_string());
+            if form == edge.line {
+                damage::replace_number(&mut text, edge.number, edge.value.to_string().as_bytes());
+            }
+            table.push(text);
+        }
+        let mut event = table.pop().unwrap_or_default();
+        if edge.line == treaty {
+            let number = damage::number_at(&table[0], 0).clamp(1, 8);
+            damage::replace_number(&mut event, 1, number.to_string().as_bytes());
+        }
+        text_case(&table, &vec![event])
+    }
+
+    /// An events text of 65,536 bytes, or one more or fewer, nearly all of it in events of 64 losses.
+    fn full_events(&mut self) -> Case {
+        let scale = self.scale();
+        let table = draw::table(&mut self.random, scale);
+        let size = EVENTS_BYTES - 1 + self.round % 3;
+        let mut events = Vec::new();
+        while events.len() + 3_000 < size {
+            let losses = draw::losses(&mut self.random, scale, &table, 64);
+            events.extend(line(format!("(event 366{losses})")));
+        }
+        while events.len() + 51 < size {
+            events.extend(b"(event 366)\n");
+        }
+        let digits = (size - events.len() - 23) as u32;
+        let (most, loss) = (10_u64.pow(digits / 2 - 1), 10_u64.pow(digits - digits / 2 - 1));
+        events.extend(line(format!("(event 366 (loss 0 {most} {loss}))")));
+        if self.random.one_in(5) {
+            events[0] = b'x';
+        }
+        Case { file: File::Text(table.lines.concat()), events }
+    }
+
+    /// A statement of 65,536 bytes, one more or fewer, or many more: events without a loss, some with a longer day.
+    fn full_statement(&mut self) -> Case {
+        let scale = self.scale();
+        let table = draw::table(&mut self.random, scale).lines.concat();
+        let events = if self.round % 4 == 3 {
+            b"(event 1)\n".repeat(self.random.place(EVENTS_BYTES / 10))
+        } else {
+            let size = EVENTS_BYTES - 1 + self.round % 4;
+            let rest = printed(Some(&table), b"").len();
+            let each = printed(Some(&table), b"(event 1)\n").len() - rest;
+            let longer = (size - rest) % each;
+            let shorter = (size - rest) / each - longer;
+            [b"(event 1)\n".repeat(shorter), b"(event 10)\n".repeat(longer)].concat()
+        };
+        Case { file: File::Text(table), events }
+    }
+
+    /// A table text of 8,192 bytes, or one more or fewer.
+    fn full_table(&mut self) -> Case {
+        let size = TABLE_BYTES - 1 + self.round % 3;
+        let (table, events) = self.draw(2);
+        let mut text = table.lines.concat();
+        if self.random.one_in(2) {
+            text = text.repeat(TABLE_BYTES / text.len().max(1) + 1);
+        }
+        text.resize(size, self.random.pick(b"x\n)"));
+        Case { file: File::Text(text), events: events.concat() }
+    }
+
+    /// Texts that are empty, a table that is not there, and a folder in its place.
+    fn without(&mut self) -> Case {
+        let (table, events) = self.draw(2);
+        match self.round % 5 {
+            0 => Case { file: File::Missing, events: events.concat() },
+            1 => Case { file: File::Folder, events: events.concat() },
+            2 => text_case(&table.lines, &Lines::new()),
+            3 => text_case(&Lines::new(), &events),
+            _ => text_case(&Lines::new(), &Lines::new()),
+        }
+    }
+
+    fn largest(&mut self) -> Case {
+        let (table, events) = draw::largest(&mut self.random);
+        text_case(&table.lines, &events)
+    }
+}

@@ -1,0 +1,175 @@
+//! Random tables and events that are accepted.
+
+use crate::random::Random;
+
+/// Lines of a text, each with its line feed.
+pub type Lines = Vec<Vec<u8>>;
+
+pub const LARGEST_AMOUNT: u64 = 10_000_000_000_000;
+const LARGEST_PREMIUM: u64 = 1_000_000_000_000;
+const LARGEST_DEDUCTIBLE: u64 = 1_000_000_000_000_000;
+const SHARES: [u64; 9] = [0, 1, 3_333, 5_000, 6_667, 7_200, 8_000, 9_999, 10_000];
+
+/// A table under way: its lines, its treaties, and the amounts at which its terms change the result.
+#[derive(Default)]
+pub struct Table {
+    pub lines: Lines,
+    pub treaties: Vec<u64>,
+    marks: Vec<u64>,
+}
+
+pub fn line(text: String) -> Vec<u8> {
+    let mut line = text.into_bytes();
+    line.push(b'\n');
+    line
+}
+
+/// An amount that has to do with a scale: an end of the range, the scale and its neighbours, below and above it.
+fn near(random: &mut Random, scale: u64) -> u64 {
+    let amount = match random.between(0, 8) {
+        0 => random.pick(&[0, 1, LARGEST_AMOUNT]).min(scale.max(1)),
+        1 => scale,
+        2 => scale + 1,
+        3 => scale.saturating_sub(1),
+        4 => scale / random.between(1, 9),
+        5 => random.between(0, 3 * scale),
+        _ => random.between(0, scale),
+    };
+    amount.min(LARGEST_AMOUNT)
+}
+
+fn none_or(random: &mut Random, amount: u64) -> u64 {
+    if random.one_in(2) {
+        0
+    } else {
+        amount
+    }
+}
+
+fn share(random: &mut Random) -> u64 {
+    if random.one_in(4) {
+        random.between(0, 10_000)
+    } else {
+        random.pick(&SHARES)
+    }
+}
+
+fn quota(random: &mut Random, number: u64, scale: u64, table: &mut Table) {
+    let cede = share(random);
+    let capacity = near(random, scale);
+    let capacity = none_or(random, capacity);
+    let limit = near(random, 2 * scale);
+    let limit = none_or(random, limit);
+    table.marks.extend([capacity, limit]);
+    table.lines.push(line(format!("(quota {number} (cede {cede}) (capacity {capacity}) (event {limit}))")));
+}
+
+fn surplus(random: &mut Random, number: u64, scale: u64, table: &mut Table) {
+    let retention = near(random, scale / 3);
+    let lines = random.pick(&[0, 1, 2, 3, 9, 100]);
+    let limit = near(random, 2 * scale);
+    let limit = none_or(random, limit);
+    table.marks.extend([retention, retention * (1 + lines), limit]);
+    table.lines.push(line(format!("(surplus {number} (retain {retention}) (lines {lines}) (event {limit}))")));
+}
+
+fn layer(random: &mut Random, tier: &str, attachment: u64, limit: u64, table: &mut Table) {
+    let deductible = random.pick(&[0, 0, limit / 3, limit, 2 * limit + 1, LARGEST_DEDUCTIBLE / 2]);
+    let deductible = if random.one_in(40) { LARGEST_DEDUCTIBLE } else { deductible.min(LARGEST_DEDUCTIBLE) };
+    let back = random.pick(&[0, 1, 1, 1, 2, 3, 20]);
+    let rate = random.pick(&[0, 1, 5_000, 10_000, 10_000, 12_345, 20_000]);
+    let premium = if random.one_in(9) { LARGEST_PREMIUM } else { near(random, limit / 4 + 1).min(LARGEST_PREMIUM) };
+    let placed = share(random);
+    table.marks.extend([attachment, attachment + limit]);
+    let terms = format!("(deduct {deductible}) (back {back} {rate} {premium}) (placed {placed})");
+    table.lines.push(line(format!("({tier} (band {attachment} {limit}) {terms})")));
+}
+
+/// Layers whose bands follow one another, half of them without a gap.
+fn tier(random: &mut Random, tier: &str, scale: u64, table: &mut Table) {
+    let mut attachment = near(random, scale / 4);
+    for _ in 0..random.pick(&[0, 1, 2, 3, 4, 8]) {
+        let limit = near(random, scale / 2).max(1);
+        if attachment > LARGEST_AMOUNT {
+            return;
+        }
+        layer(random, tier, attachment, limit, table);
+        let gap = near(random, scale / 3).max(1);
+        attachment += limit + none_or(random, gap);
+    }
+}
+
+/// A table with amounts about a scale.
+pub fn table(random: &mut Random, scale: u64) -> Table {
+    let mut table = Table::default();
+    let rare = random.between(1, 4);
+    for number in 1..=8 {
+        if random.one_in(rare) {
+            table.treaties.push(number);
+            match random.one_in(2) {
+                true => quota(random, number, scale, &mut table),
+                false => surplus(random, number, scale, &mut table),
+            }
+        }
+    }
+    tier(random, "risk", scale, &mut table);
+    let event_scale = scale * random.between(1, 3);
+    tier(random, "cat", event_scale, &mut table);
+    table
+}
+
+/// An amount about a scale, often at a mark of the table or beside it.
+fn amount(random: &mut Random, scale: u64, table: &Table) -> u64 {
+    if table.marks.is_empty() || !random.one_in(3) {
+        return near(random, scale);
+    }
+    let mark = random.pick(&table.marks) + random.pick(&[0, 0, 1, 2]);
+    mark.saturating_sub(random.pick(&[0, 1])).min(LARGEST_AMOUNT)
+}
+
+/// So many loss forms, each after a space; most under the table's treaties.
+pub fn losses(random: &mut Random, scale: u64, table: &Table, count: usize) -> String {
+    let mut forms = String::new();
+    for _ in 0..count {
+        let treaty = if table.treaties.is_empty() || random.one_in(4) { 0 } else { random.pick(&table.treaties) };
+        let most = amount(random, scale, table).max(1);
+        let loss = amount(random, scale, table);
+        forms += &format!(" (loss {treaty} {most} {loss})");
+    }
+    forms
+}
+
+/// So many events, days from one to the last.
+pub fn events(random: &mut Random, scale: u64, table: &Table, count: usize) -> Lines {
+    let mut day = random.pick(&[1, 30, 90, 365, 366]);
+    let mut lines = Lines::new();
+    for _ in 0..count {
+        let count = random.pick(&[0, 1, 1, 2, 3, 5, 9, 20, 63, 64]);
+        let losses = losses(random, scale, table, count);
+        lines.push(line(format!("(event {day}{losses})")));
+        day = (day + random.pick(&[0, 0, 1, 7, 40])).min(366);
+    }
+    lines
+}
+
+/// A table of one layer in each tier at the ends of their ranges, with losses as large as they can be.
+pub fn largest(random: &mut Random) -> (Table, Lines) {
+    let mut table = Table { treaties: vec![8], ..Table::default() };
+    let cede = random.pick(&[1, 9_999]);
+    table.lines.push(line(format!("(quota 8 (cede {cede}) (capacity 9999999999999) (event 0))")));
+    for tier in ["risk", "cat"] {
+        let attachment = random.pick(&[0, 1, LARGEST_AMOUNT / 2, LARGEST_AMOUNT]);
+        let limit = random.pick(&[1, LARGEST_AMOUNT - 1, LARGEST_AMOUNT]);
+        let deductible = random.pick(&[0, LARGEST_AMOUNT, LARGEST_DEDUCTIBLE]);
+        let (back, rate) = (random.pick(&[19, 20]), random.pick(&[19_999, 20_000]));
+        let premium = random.pick(&[LARGEST_PREMIUM - 1, LARGEST_PREMIUM]);
+        let placed = random.pick(&[9_999, 10_000]);
+        let terms = format!("(deduct {deductible}) (back {back} {rate} {premium}) (placed {placed})");
+        table.lines.push(line(format!("({tier} (band {attachment} {limit}) {terms})")));
+    }
+    let most = random.pick(&[1, LARGEST_AMOUNT]);
+    let mut form = || format!(" (loss {} {most} {LARGEST_AMOUNT})", random.pick(&[0, 0, 8]));
+    let forms: String = (0..64).map(|_| form()).collect();
+    let events = (0..24).map(|day| line(format!("(event {}{forms})", day + 1))).collect();
+    (table, events)
+}
