@@ -37,12 +37,12 @@ use Rattle.statement.specs.declared.print.Counts.{Counts}
 use Rattle.statement.specs.Numbers.{numbersOf}
 use Rattle.statement.specs.Shows.{Fits, Shows}
 use Rattle.statement.proofs.Shown.{numbers-length}
-use Rattle.engine.specs.declared.progress.Progress.{Progress}
-use Rattle.engine.specs.declared.pass.Passed.{Passed}
+use Rattle.booking.specs.declared.progress.Progress.{Progress}
+use Rattle.lines.specs.declared.pass.Passed.{Passed}
 use Rattle.engine.specs.declared.run.Ran.{Ran}
-use Rattle.engine.specs.Records.{yearIn, SoundRecords}
-use Rattle.engine.specs.Progress.{FirstOf}
-use Rattle.engine.specs.Pass.{Stands, CanPass, passIs}
+use Rattle.booking.specs.Records.{yearIn, SoundRecords}
+use Rattle.booking.specs.Progress.{FirstOf, Stands}
+use Rattle.lines.specs.Pass.{CanPass, passIs}
 use Rattle.engine.specs.Run.{ranOf, goneThrough, restNumbers, CanKeep, CanRun}
 use Rattle.engine.proofs.Stating.{through-length, all-kept}
 

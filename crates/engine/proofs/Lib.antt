@@ -1,11 +1,4 @@
-pub mod TableFacts
-pub mod LossPass
-pub mod EventBounds
-pub mod EventBooked
-pub mod Booking
-pub mod LinePass
 pub mod Writing
 pub mod Stating
-pub mod Beginning
 pub mod GoneThrough
 pub mod RunTests

@@ -23,9 +23,9 @@ use Rattle.losses.specs.Cede.{cededAdded}
 use Rattle.losses.proofs.Added.{added-length, added-at}
 use Rattle.statement.specs.Numbers.{numbersOf, cededLine}
 use Rattle.statement.proofs.Shown.{numbers-append, layers-numbers}
-use Rattle.engine.specs.declared.progress.Progress.{Progress}
-use Rattle.engine.specs.Records.{yearIn}
-use Rattle.engine.specs.Pass.{cededThrough, Stands}
+use Rattle.booking.specs.declared.progress.Progress.{Progress}
+use Rattle.booking.specs.Records.{yearIn}
+use Rattle.booking.specs.Progress.{cededThrough, Stands}
 use Rattle.engine.specs.Run.{restNumbers}
 
 pub through-length : (ts : List Treaty) (cs : List ℕ) (es : List Event) → length (cededThrough ts cs es) ≡ length cs

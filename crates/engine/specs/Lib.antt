@@ -1,4 +1,1 @@
-pub mod Records
-pub mod Progress
-pub mod Pass
 pub mod Run

@@ -19,9 +19,9 @@ use Rattle.year.specs.Standing.{standingPasses}
 use Rattle.year.specs.Statement.{amountsNumbers, treatyShown, layerLineOf, layersShown}
 use Rattle.year.specs.Run.{Outcome, runThrough, answerOf, bufferAfter, standingAfter}
 use Rattle.statement.specs.Numbers.{numbersOf, cededLine}
-use Rattle.engine.specs.declared.progress.Progress.{Progress}
+use Rattle.booking.specs.declared.progress.Progress.{Progress}
 use Rattle.engine.specs.declared.run.Ran.{Ran}
-use Rattle.engine.specs.Records.{SoundRecords}
+use Rattle.booking.specs.Records.{SoundRecords}
 
 -- the answer of an outcome, and the standing after it
 abbrev pub ranOf : Outcome → Standing → Ran

@@ -1,4 +1,2 @@
-// The engine: a year opened, and events run through it.
-pub mod pass;
-pub mod progress;
+// The engine: events run through a year.
 pub mod run;

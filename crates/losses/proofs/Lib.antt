@@ -5,3 +5,4 @@ pub mod Earlier
 pub mod Added
 pub mod CedePass
 pub mod Lacks
+pub mod TableFacts

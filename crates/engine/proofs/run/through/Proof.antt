@@ -7,9 +7,6 @@ use Rattle.engine.proofs.GoneThrough as law
 use Rattle.engine.proofs.run.through.Statement.{statement}
 use Rattle.engine.proofs.run.through.Tie as tie
 
--- `engine::run::through` meets its contract.
--- Assumes nothing.
-
 table-of-requires : tie.Need-table-of-requires
 table-of-requires c κs =
     let start = c .before .before .before .before in

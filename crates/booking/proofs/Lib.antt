@@ -1,0 +1,4 @@
+pub mod EventBounds
+pub mod EventBooked
+pub mod Booking
+pub mod Beginning

@@ -1,0 +1,2 @@
+pub mod LossPass
+pub mod LinePass
