@@ -6,8 +6,8 @@ use mathlib.Core.List.{List, [], _∷_, _++_}
 use Prim.Native.Nat.{ℕ, _+_, _-_, _*_, _/_, _^_, _≤_}
 use native.Mathlib.Nat.{add-zero}
 use native.Mathlib.Omega.{arith}
-use lib.ListN.{length, take, length-take}
-use lib.Seq.{length-sets, take-at, length-take-le}
+use lib.ListN.{length, replicate, take, length-take}
+use lib.Seq.{sets, length-sets, take-at, length-take-le}
 use mir.Syntax.{w64}
 use mir.Val.{Fits}
 use Rattle.lists.specs.Sums.{total}
@@ -29,15 +29,15 @@ use Rattle.events.specs.Event.{Event}
 use Rattle.year.specs.declared.Amounts.{Amounts}
 use Rattle.year.specs.Event.{leftByTreaties, subjectOf, eventAmounts}
 use Rattle.year.specs.Statement.{added, eventNumbers}
-use Rattle.losses.specs.declared.table.ByNumber.{ByNumber}
+use Rattle.losses.specs.declared.register.ByNumber.{ByNumber}
 use Rattle.losses.specs.declared.cede.Ceded.{Ceded}
-use Rattle.losses.specs.Table.{numbered}
-use Rattle.losses.specs.Cede.{lossesFrom, CedesEach}
+use Rattle.losses.specs.Register.{numbered}
+use Rattle.losses.specs.Cede.{lossesFrom, AfterTreaties}
 use Rattle.losses.proofs.Triples.{losses-count}
 use Rattle.booking.specs.declared.progress.Records.{Records}
 use Rattle.booking.specs.declared.progress.Progress.{Progress}
 use Rattle.booking.specs.Records.{yearIn}
-use Rattle.booking.specs.Progress.{Room, AfterTreaties, CanEnter, CanBook, Booked}
+use Rattle.booking.specs.Progress.{Room, CanEnter, CanBook, Booked}
 
 -- amounts, added one by one
 pub added-both : (a b : Amounts)
@@ -138,8 +138,8 @@ module _ (p : Progress) (c : Ceded) (ys : List ℕ) (h : CanEnter p c ys) (risk 
         premium = u + v;
       }
 
-      pub both-room : Room (p .total) × Room its
-      both-room =
+      pub amounts-room : Room (p .total) × Room its
+      amounts-room =
           let within = h .small in
           let parts = h .parts in
           let first = recovered-and-left in
@@ -150,28 +150,29 @@ module _ (p : Progress) (c : Ceded) (ys : List ℕ) (h : CanEnter p c ys) (risk 
       -- The totals are t then, and the numbers of the day's line were kept.
       module _ (day next : ℕ) (d d′ : List ℕ) (t : Amounts) (is-t : t ≡ added (p .total ∷ its ∷ []))
           (put : Put d (p .kept) (eventNumbers (record { day = day; amounts = its })) d′ next)
-          (ts : List Treaty) (xs : List Loss) (cs cs′ : List ℕ) (a : AfterTreaties ts xs c ys cs cs′) where
+          (ts : List Treaty) (xs : List Loss) (cs cs′ : List ℕ) (a : AfterTreaties ts xs cs cs′ c)
+          (is-left : ys ≡ leftOfEach ts [] xs) where
         abbrev e : Event
         e = record { day = day; losses = xs }
 
         subject-is : subject ≡ subjectOf ts (yearIn r) e
         unfolding subjectOf
-        subject-is = subject-left ∙ ap (λ (l : List ℕ). leftThrough l (layersOf (r .risk))) (a .left)
+        subject-is = subject-left ∙ ap (λ (l : List ℕ). leftThrough l (layersOf (r .risk))) is-left
 
         year-risk : layersOf (risk .tier) ≡ layersThrough (leftByTreaties ts e) (layersOf (r .risk))
-        year-risk = rw (is-risk, ← a .left) (layers-through ys (r .risk))
+        year-risk = rw (is-risk, ← is-left) (layers-through ys (r .risk))
 
         year-cat : layersOf (cat .tier) ≡ layersAfter (subjectOf ts (yearIn r) e) (layersOf (r .cat))
         year-cat = rw (is-cat, ← subject-is) (layers-through (subject ∷ []) (r .cat))
 
         by-risk : m ≡ eventAmounts ts (yearIn r) e .risk
-        by-risk = rw (is-m, is-risk, ← a .left)
+        by-risk = rw (is-m, is-risk, ← is-left)
 
         by-cat : n ≡ eventAmounts ts (yearIn r) e .cat
         by-cat = rw (is-n, is-cat, ← subject-is) (add-zero _)
 
         premiums : u + v ≡ eventAmounts ts (yearIn r) e .premium
-        premiums = rw (is-u, is-v, is-risk, is-cat, ← a .left, ← subject-is, add-zero)
+        premiums = rw (is-u, is-v, is-risk, is-cat, ← is-left, ← subject-is, add-zero)
 
         amounts-are : its ≡ eventAmounts ts (yearIn r) e
         amounts-are j = record {
@@ -208,61 +209,58 @@ left-count : (ts : List Treaty) (earlier xs : List Loss) → length (leftOfEach 
 left-count ts earlier [] = refl
 left-count ts earlier (x ∷ xs) = omega (arith, left-count ts (earlier ++ (x ∷ [])) xs)
 
--- The losses of an event went through their treaties. What is left of each stands at the front of l′, which was l.
-module _ {p : Progress} {table : ByNumber} {ns cs : List ℕ} (h : CanBook p table ns cs) {c : Ceded} {l l′ cs′ : List ℕ}
-    (long : 64 ≤ length l)
-    (k : (ts : List Treaty) → table .places ≡ numbered ts → CedesEach ts (lossesFrom ns) l l′ cs cs′ c) where
-  pub left-room : length ns / 3 ≤ length l′
+-- The losses of an event went through their treaties. What is left of each stands at the front of l, which had 64
+-- noughts.
+module _ {p : Progress} {table : ByNumber} {ns cs : List ℕ} (h : CanBook p table ns cs) {c : Ceded} {l cs′ : List ℕ}
+    (k : (ts : List Treaty) → table .places ≡ numbered ts
+    → AfterTreaties ts (lossesFrom ns) cs cs′ c
+    × (l ≡ sets (replicate 64 0) 0 (leftOfEach ts [] (lossesFrom ns)))) where
+  pub left-room : length ns / 3 ≤ length l
   left-room =
-      let leaves = leftOfEach (h .treaties) [] (lossesFrom ns) in
-      let same = ap length (k (h .treaties) (h .by-number) .left) ∙ length-sets l 0 leaves in
-      omega (arith, same, losses-count ns, h .few)
+      let left = leftOfEach (h .cede .treaties) [] (lossesFrom ns) in
+      let same = ap length (k (h .cede .treaties) (h .cede .by-number) .1) ∙ length-sets (replicate 64 0) 0 left in
+      omega (arith, same, losses-count ns, h .cede .few)
 
   -- the amounts left
   abbrev lefts : List ℕ
-  lefts = take (length ns / 3) l′
+  lefts = take (length ns / 3) l
 
   pub left-length : length ns / 3 ≡ length lefts
-  left-length = sym (length-take-le (length ns / 3) l′ left-room)
+  left-length = sym (length-take-le (length ns / 3) l left-room)
 
-  pub after-treaties : (ts : List Treaty) → table .places ≡ numbered ts
-      → AfterTreaties ts (lossesFrom ns) c lefts cs cs′
-  after-treaties ts q = record {
-    gross = k ts q .gross;
-    ceded = k ts q .ceded;
-    left =
-        rw (put-whole (omega (arith, left-count ts [] (lossesFrom ns), h .few)) put)
-        (take-at leaves _ (length ns / 3) (left-count ts [] (lossesFrom ns) ∙ losses-count ns));
-    cessions = k ts q .by-treaty;
-  }
+  lefts-are : (ts : List Treaty) → table .places ≡ numbered ts → lefts ≡ leftOfEach ts [] (lossesFrom ns)
+  lefts-are ts q =
+      rw (put-whole (omega (arith, left-count ts [] (lossesFrom ns), h .cede .few)) put)
+      (take-at left _ (length ns / 3) (left-count ts [] (lossesFrom ns) ∙ losses-count ns))
     where
-      leaves : List ℕ
-      leaves = leftOfEach ts [] (lossesFrom ns)
+      left : List ℕ
+      left = leftOfEach ts [] (lossesFrom ns)
 
-      put : Put l 0 leaves l′ (0 + length leaves)
-      put = record { place = refl; bytes = k ts q .left }
+      put : Put (replicate 64 0) 0 left l (0 + length left)
+      put = record { place = refl; bytes = k ts q .1 }
 
   pub can-enter : CanEnter p c lefts
   can-enter = record {
     records = h .records;
     parts =
-        rw (known .left, known .gross, known .ceded)
-        (all-ceded-and-left (h .treaties) (h .cedes) [] (lossesFrom ns));
-    small = rw (known .gross) (omega (arith, each-le, h .few));
+        rw (lefts-are (h .cede .treaties) (h .cede .by-number), known .gross, known .ceded)
+        (all-ceded-and-left (h .cede .treaties) (h .cedes) [] (lossesFrom ns));
+    small = rw (known .gross) (omega (arith, each-le, h .cede .few));
     totals = h .totals;
     kept = h .kept;
   }
     where
-      known : AfterTreaties (h .treaties) (lossesFrom ns) c lefts cs cs′
-      known = after-treaties (h .treaties) (h .by-number)
+      known : AfterTreaties (h .cede .treaties) (lossesFrom ns) cs cs′ c
+      known = k (h .cede .treaties) (h .cede .by-number) .0
 
       each-le : grossOf (lossesFrom ns) ≤ length (lossesFrom ns) * 10 ^ 13
-      each-le = sum-le LossInRange (λ (x : Loss). x .amount) (10 ^ 13) (λ x g. g .amount) (lossesFrom ns) (h .losses)
+      each-le = sum-le LossInRange (λ (x : Loss). x .amount) (10 ^ 13) (λ x g. g .amount) (lossesFrom ns)
+          (h .cede .losses)
 
   -- so the event is booked
   pub booked : {day : ℕ} {d d′ : List ℕ} {r : Progress}
-      → ((ts : List Treaty) (xs : List Loss) (cs₀ cs₁ : List ℕ) → AfterTreaties ts xs c lefts cs₀ cs₁
-      → Booked ts p (record { day = day; losses = xs }) d d′ cs₀ cs₁ r)
+      → ((ts : List Treaty) (xs : List Loss) (cs₀ cs₁ : List ℕ) → AfterTreaties ts xs cs₀ cs₁ c
+      → lefts ≡ leftOfEach ts [] xs → Booked ts p (record { day = day; losses = xs }) d d′ cs₀ cs₁ r)
       → (ts : List Treaty) → table .places ≡ numbered ts
       → Booked ts p (record { day = day; losses = lossesFrom ns }) d d′ cs cs′ r
-  booked f ts q = f ts (lossesFrom ns) cs cs′ (after-treaties ts q)
+  booked f ts q = f ts (lossesFrom ns) cs cs′ (k ts q .0) (lefts-are ts q)

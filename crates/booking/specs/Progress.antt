@@ -3,14 +3,10 @@
 use mathlib.Core.Path.{_≡_}
 use mathlib.Core.List.{List, [], _∷_, map}
 use Prim.Native.Nat.{ℕ, _+_, _*_, _^_, _≤_, _<_}
-use lib.ListN.{length}
 use Rattle.lists.specs.Sums.{total}
 use Rattle.lists.specs.Each.{Each}
 use Rattle.text.specs.Buffer.{Put}
 use Rattle.treaty.specs.declared.Treaty.{Treaty}
-use Rattle.treaty.specs.declared.Loss.{Loss}
-use Rattle.treaty.specs.Losses.{grossOf, cededOfEach, leftOfEach}
-use Rattle.treaty.specs.Ranges.{TermsInRange, LossInRange}
 use Rattle.programme.specs.declared.contract.Programme.{Programme}
 use Rattle.programme.specs.Contracts.{contractsIn}
 use Rattle.events.specs.Event.{Event, lastDay}
@@ -19,10 +15,9 @@ use Rattle.year.specs.declared.Standing.{Standing}
 use Rattle.year.specs.Event.{eventAfter, eventAmounts, yearAfter}
 use Rattle.year.specs.Statement.{eventLines, added, totals, amountsNumbers, eventNumbers, eventShown}
 use Rattle.year.specs.Standing.{yearOf}
-use Rattle.losses.specs.declared.table.ByNumber.{ByNumber}
+use Rattle.losses.specs.declared.register.ByNumber.{ByNumber}
 use Rattle.losses.specs.declared.cede.Ceded.{Ceded}
-use Rattle.losses.specs.Table.{numbered}
-use Rattle.losses.specs.Cede.{lossesFrom, cededAdded}
+use Rattle.losses.specs.Cede.{cededAdded, CanCede}
 use Rattle.statement.specs.Numbers.{numbersOf}
 use Rattle.booking.specs.declared.progress.Progress.{Progress}
 use Rattle.booking.specs.Records.{yearIn, SoundRecords}
@@ -30,14 +25,6 @@ use Rattle.booking.specs.Records.{yearIn, SoundRecords}
 -- amounts with room for those of an event more
 abbrev pub Room : Amounts → Type 0
 Room a = Each (λ (n : ℕ). n ≤ 2 ^ 62) (amountsNumbers a)
-
--- The losses xs went through the treaties ts: c is what they come to and what is ceded, and ys is what is left of
--- each. What each treaty cedes was added to its place of cs, which are cs′ then.
-pub record AfterTreaties (ts : List Treaty) (xs : List Loss) (c : Ceded) (ys cs cs′ : List ℕ) : Type 0 where
-  pub gross : c .gross ≡ grossOf xs
-  pub ceded : c .ceded ≡ total (cededOfEach ts [] xs)
-  pub left : ys ≡ leftOfEach ts [] xs
-  pub cessions : cs′ ≡ cededAdded ts [] cs xs
 
 -- What c and ys take to go through the layers: sound records, a gross amount of at most 64 × 10^13 that is what is
 -- ceded and what is left, and totals and a place that leave room for it.
@@ -48,19 +35,13 @@ pub record CanEnter (p : Progress) (c : Ceded) (ys : List ℕ) : Type 0 where
   pub totals : Room (p .total)
   pub kept : p .kept < 2 ^ 32
 
--- What booking an event takes: sound records, the table of some treaties, terms and losses in range, at most 64
--- losses, and totals, cessions and a place that leave room for it.
+-- What booking an event takes: sound records, what its treaties take to cede, of which each cedes at most the whole,
+-- and totals and a place that leave room for it.
 pub record CanBook (p : Progress) (table : ByNumber) (ns cs : List ℕ) : Type 0 where
   pub records : SoundRecords (p .records)
-  pub treaties : List Treaty
-  pub by-number : table .places ≡ numbered treaties
-  pub cedes : Each (λ (t : Treaty). t .cede ≤ 10000) treaties
-  pub terms : Each TermsInRange (table .places)
-  pub losses : Each LossInRange (lossesFrom ns)
-  pub few : length (lossesFrom ns) ≤ 64
+  pub cede : CanCede table ns cs
+  pub cedes : Each (λ (t : Treaty). t .cede ≤ 10000) (cede .treaties)
   pub totals : Room (p .total)
-  pub places : length cs ≡ 9
-  pub cessions : Each (λ (n : ℕ). n ≤ 2 ^ 62) cs
   pub kept : p .kept < 2 ^ 32
 
 -- The event e was booked under the treaties ts: p became r. The numbers of its line were kept in d, which is d′ then,

@@ -9,14 +9,15 @@ ghost use Rattle.programme.specs.Contracts.{contractsIn};
 ghost use Rattle.programme.specs.Valid.{valid};
 ghost use Rattle.year.specs.Statement.{added};
 ghost use Rattle.year.specs.Standing.{standingOf, standingPasses};
-ghost use Rattle.losses.specs.Table.{numbered};
-ghost use Rattle.losses.specs.Cede.{lossesFrom};
+ghost use Rattle.losses.specs.Register.{numbered};
+ghost use Rattle.treaty.specs.Losses.{leftOfEach};
+ghost use Rattle.losses.specs.Cede.{lossesFrom, AfterTreaties};
 ghost use Rattle.booking.specs.Records.{yearIn, SoundRecords};
-ghost use Rattle.booking.specs.Progress.{Room, AfterTreaties, CanEnter, CanBook, Booked, FirstOf};
+ghost use Rattle.booking.specs.Progress.{Room, CanEnter, CanBook, Booked, FirstOf};
 use layer::tier::Tier;
 use losses::cede;
 use losses::cede::Ceded;
-use losses::table::ByNumber;
+use losses::register::ByNumber;
 use programme::contract::Programme;
 use standings::records;
 use year::Amounts;
@@ -28,18 +29,18 @@ pub struct Records {
     pub cat: Tier,
 }
 
-// The amounts of both, added.
-fn both(a: Amounts, b: Amounts) -> Amounts
-    requires { ⌜ Room a × Room b ⌝ }
-    ensures { λ r. ⌜ r ≡ added (a ∷ b ∷ []) ⌝ }
+// The totals with the amounts of an event more.
+fn total_with(total: Amounts, event: Amounts) -> Amounts
+    requires { ⌜ Room total × Room event ⌝ }
+    ensures { λ r. ⌜ r ≡ added (total ∷ event ∷ []) ⌝ }
 {
     Amounts {
-        gross: a.gross + b.gross,
-        ceded: a.ceded + b.ceded,
-        risk: a.risk + b.risk,
-        cat: a.cat + b.cat,
-        net: a.net + b.net,
-        premium: a.premium + b.premium,
+        gross: total.gross + event.gross,
+        ceded: total.ceded + event.ceded,
+        risk: total.risk + event.risk,
+        cat: total.cat + event.cat,
+        net: total.net + event.net,
+        premium: total.premium + event.premium,
     }
 }
 
@@ -100,8 +101,8 @@ impl Progress {
     fn enter(self, day: u64, ceded: Ceded, left: &[u64], kept: &mut [u64]) -> Progress
         requires { ⌜ CanEnter self ceded (now left) ⌝ }
         ensures { λ r. ⌜ ((ts : List Treaty) (xs : List Loss) (cs cs′ : List ℕ)
-            → AfterTreaties ts xs ceded (now (left .entry)) cs cs′ → Booked ts self (record { day = day; losses = xs })
-            (now (kept .entry)) (now (kept .exit)) cs cs′ r) ⌝ }
+            → AfterTreaties ts xs cs cs′ ceded → now (left .entry) ≡ leftOfEach ts [] xs
+            → Booked ts self (record { day = day; losses = xs }) (now (kept .entry)) (now (kept .exit)) cs cs′ r) ⌝ }
     {
         let after_risk = self.records.risk.bear(left);
         let by_risk = after_risk.sums.recovered.cents();
@@ -118,7 +119,7 @@ impl Progress {
             net,
             premium,
         };
-        let total = both(self.total, amounts);
+        let total = total_with(self.total, amounts);
         let next = scratch::keep(
             kept,
             self.kept,

@@ -1,4 +1,4 @@
 pub mod Writing
 pub mod Stating
-pub mod GoneThrough
+pub mod RunLines
 pub mod RunTests

@@ -15,20 +15,18 @@ use Rattle.year.specs.declared.Standing.{Standing}
 use Rattle.year.specs.Standing.{standingPasses}
 use Rattle.year.specs.Run.{refused, runFrom, runOf}
 use Rattle.engine.specs.declared.run.Ran.{Ran}
-use Rattle.engine.specs.Run.{ranOf, Told, goneThrough, CanRun, Runs}
+use Rattle.engine.specs.Run.{ranOf, RanAs, runLines, CanRun, PlacesFor}
 
 -- a place for each number
 pub with-places : (n m z : ℕ) (p : Programme) (s : Standing) (text : List ℕ) → n ≤ 65536 → 7 * n + 1020 ≤ 10 * m
-    → Runs n p s text → CanRun p s text (replicate m z)
-with-places n m z p s text h k r = record {
-  programme = r .programme;
-  standing = r .standing;
-  short = omega (arith, r .short);
-  room = rw (length-replicate m z) (omega (arith, r .short));
-}
+    → CanRun n p s text → CanRun 65536 p s text × PlacesFor text (replicate m z)
+with-places n m z p s text h k r = (
+  record { programme = r .programme; standing = r .standing; short = omega (arith, r .short) },
+  record { room = rw (length-replicate m z) (omega (arith, r .short)) },
+)
 
 module _ (p : Programme) (s : Standing) (text d : List ℕ) (t : Bool) (a : t ≡ valid p) where
-  pub invalid : t ≡ false → (r : Ran) → r ≡ ranOf (refused 6 0) s → Told (runOf p s text (length d)) s d d r
+  pub invalid : t ≡ false → (r : Ran) → r ≡ ranOf (refused 6 0) s → RanAs (runOf p s text (length d)) s d d r
   unfolding runOf
   invalid f r e =
       let six : runOf p s text (length d) ≡ refused 6 0 = simp (runOf, sym a ∙ f) in
@@ -39,28 +37,28 @@ module _ (p : Programme) (s : Standing) (text d : List ℕ) (t : Bool) (a : t �
     unfolding runOf
     from = simp (runOf, sym a ∙ f)
 
-    pub not-standing : u ≡ false → (r : Ran) → r ≡ ranOf (refused 8 0) s → Told (runOf p s text (length d)) s d d r
+    pub not-standing : u ≡ false → (r : Ran) → r ≡ ranOf (refused 8 0) s → RanAs (runOf p s text (length d)) s d d r
     unfolding runFrom
     not-standing g r e =
         let eight : runFrom (contractsIn p) s text (length d) ≡ refused 8 0 = simp (runFrom, sym b ∙ g) in
         rw (from, eight) (e, refl)
 
     module _ (g : u ≡ true) where
-      pub runs : (n : ℕ) → length text ≤ n → Runs n p s text
-      runs n h = record { programme = sym a ∙ f; standing = sym b ∙ g; short = h }
+      pub can-run : (n : ℕ) → length text ≤ n → CanRun n p s text
+      can-run n h = record { programme = sym a ∙ f; standing = sym b ∙ g; short = h }
 
       pub too-long : 65536 < length text → (r : Ran) → r ≡ ranOf (refused 9 0) s
-          → Told (runOf p s text (length d)) s d d r
+          → RanAs (runOf p s text (length d)) s d d r
       unfolding runFrom eventsOf
       too-long h r e =
           let nine : runFrom (contractsIn p) s text (length d) ≡ refused 9 0 =
           simp (runFrom, sym b ∙ g, eventsOf, lt-ltb 65536 (length text) h) in
           rw (from, nine) (e, refl)
 
-      pub gone : length text ≤ 65536 → (d′ : List ℕ) (r : Ran) → Told (goneThrough p s text (length d)) s d d′ r
-          → Told (runOf p s text (length d)) s d d′ r
+      pub by-lines : length text ≤ 65536 → (d′ : List ℕ) (r : Ran) → RanAs (runLines p s text (length d)) s d d′ r
+          → RanAs (runOf p s text (length d)) s d d′ r
       unfolding runFrom eventsOf
-      gone h d′ r e =
-          let through : runFrom (contractsIn p) s text (length d) ≡ goneThrough p s text (length d) =
+      by-lines h d′ r e =
+          let through : runFrom (contractsIn p) s text (length d) ≡ runLines p s text (length d) =
           simp (runFrom, sym b ∙ g, eventsOf, le-ltb 65536 (length text) h) in
           rw (from, through) e

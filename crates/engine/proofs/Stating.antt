@@ -28,6 +28,15 @@ use Rattle.booking.specs.Records.{yearIn}
 use Rattle.booking.specs.Progress.{cededThrough, Stands}
 use Rattle.engine.specs.Run.{restNumbers}
 
+-- the numbers after the events', kept part by part
+pub rest-kept : {d d₁ d₂ d₃ d₄ : List ℕ} {at a b c end : ℕ} {u v w x : List ℕ} → Put d at u d₁ a → Put d₁ a v d₂ b
+    → Put d₂ b w d₃ c → Put d₃ c x d₄ end → Put d at (u ++ (v ++ (w ++ x))) d₄ end
+rest-kept p q r s = put-append p (put-append q (put-append r s))
+
+pub rest-short : (at a b c end : ℕ) {d d′ : List ℕ} {x : List ℕ} → a ≤ at + 16 → b ≤ a + 40 → c ≤ b + 40
+    → Put d c x d′ end → length x ≡ 6 → end ≤ at + 102
+rest-short at a b c end i j k p l = omega (arith, p .place)
+
 pub through-length : (ts : List Treaty) (cs : List ℕ) (es : List Event) → length (cededThrough ts cs es) ≡ length cs
 through-length ts cs [] = refl
 through-length ts cs (e ∷ es) =

@@ -7,20 +7,19 @@ use native.Mathlib.Omega.{arith}
 use borrow.Author.Tests.{lt-ltb, le-ltb}
 use lib.ListN.{length}
 use Rattle.text.specs.Buffer.{Put}
-use Rattle.text.proofs.Puts.{put-append, put-whole, no-bytes}
+use Rattle.text.proofs.Puts.{put-whole, no-bytes}
 use Rattle.year.specs.declared.Standing.{Standing}
 use Rattle.year.specs.Statement.{Statement, statementText}
 use Rattle.year.specs.Run.{refused, accepted, fitted}
 use Rattle.statement.specs.declared.print.Counts.{Counts}
 use Rattle.statement.specs.Shows.{Shows}
 use Rattle.engine.specs.declared.run.Ran.{Ran}
-use Rattle.engine.specs.Run.{ranOf, Told}
+use Rattle.engine.specs.Run.{ranOf, writtenRan, RanAs}
 
 module _ (t : Statement) (lent after : Standing) (d : List ℕ) where
   -- the statement's text was put into a buffer that holds it, and has n bytes
   in-full : {d′ : List ℕ} {n : ℕ} → Put d 0 (statementText t) d′ n → n ≤ length d
-      → Told (fitted (length d) t after) lent d d′
-      (record { answer = record { refusal = 0; number = n }; standing = after })
+      → RanAs (fitted (length d) t after) lent d d′ (writtenRan n after)
   unfolding fitted
   in-full {d′} {n} q h =
       let size : length (statementText t) ≡ n = omega (arith, q .place) in
@@ -34,7 +33,7 @@ module _ (t : Statement) (lent after : Standing) (d : List ℕ) where
 
     -- it is longer than the buffer
     too-long : length (m′ ++ d) < n → (r : Ran) → r ≡ ranOf (refused 7 n) lent
-        → Told (fitted (length d) t after) lent d (m′ ++ d) r
+        → RanAs (fitted (length d) t after) lent d (m′ ++ d) r
     unfolding fitted
     too-long h r e =
         let seven : fitted (length d) t after ≡ refused 7 n =
@@ -43,8 +42,7 @@ module _ (t : Statement) (lent after : Standing) (d : List ℕ) where
 
     -- it is not, and is put into the whole of it
     fits-in : n ≤ length (m′ ++ d) → {d′ : List ℕ} {end : ℕ} → Put (m′ ++ d) 0 (statementText t) d′ end
-        → Told (fitted (length d) t after) lent d d′
-        (record { answer = record { refusal = 0; number = n }; standing = after })
+        → RanAs (fitted (length d) t after) lent d d′ (writtenRan n after)
     fits-in h {d′} q =
         let put = rw (no-bytes m′ d none) at q in
         let same : Put d 0 (statementText t) d′ n =
@@ -54,29 +52,18 @@ module _ (t : Statement) (lent after : Standing) (d : List ℕ) where
 -- as the code has it: measuring and writing speak of every statement that the numbers show
 module _ (ns : List ℕ) (c : Counts) (lent after : Standing) (d : List ℕ) where
   pub at-once : {d′ : List ℕ} {n most : ℕ} → ((t : Statement) → Shows t ns c → Put d 0 (statementText t) d′ n)
-      → n ≤ most → most ≤ length d → (t : Statement) → Shows t ns c
-      → Told (fitted (length d) t after) lent d d′
-      (record { answer = record { refusal = 0; number = n }; standing = after })
-  at-once q h l t s = in-full t lent after d (q t s) (omega arith)
+      → n ≤ most → most ≤ length d → (r : Ran) → r ≡ writtenRan n after → (t : Statement) → Shows t ns c
+      → RanAs (fitted (length d) t after) lent d d′ r
+  at-once q h l r e t s = rw e (in-full t lent after d (q t s) (omega arith))
 
   module _ {m m′ : List ℕ} {n : ℕ} (measured : (t : Statement) → Shows t ns c → Put m 0 (statementText t) m′ n)
       (none : length m′ ≡ 0) where
     pub not-written : length (m′ ++ d) < n → (r : Ran) → r ≡ ranOf (refused 7 n) lent
-        → (t : Statement) → Shows t ns c → Told (fitted (length d) t after) lent d (m′ ++ d) r
+        → (t : Statement) → Shows t ns c → RanAs (fitted (length d) t after) lent d (m′ ++ d) r
     not-written h r e t s = too-long t lent after d (measured t s) none h r e
 
     pub written : n ≤ length (m′ ++ d) → {d′ : List ℕ} {end : ℕ}
         → ((t : Statement) → Shows t ns c → Put (m′ ++ d) 0 (statementText t) d′ end)
-        → (t : Statement) → Shows t ns c
-        → Told (fitted (length d) t after) lent d d′
-        (record { answer = record { refusal = 0; number = n }; standing = after })
-    written h q t s = fits-in t lent after d (measured t s) none h (q t s)
-
--- the numbers after the events', kept part by part
-pub rest-kept : {d d₁ d₂ d₃ d₄ : List ℕ} {at a b c end : ℕ} {u v w x : List ℕ} → Put d at u d₁ a → Put d₁ a v d₂ b
-    → Put d₂ b w d₃ c → Put d₃ c x d₄ end → Put d at (u ++ (v ++ (w ++ x))) d₄ end
-rest-kept p q r s = put-append p (put-append q (put-append r s))
-
-pub rest-short : (at a b c end : ℕ) {d d′ : List ℕ} {x : List ℕ} → a ≤ at + 16 → b ≤ a + 40 → c ≤ b + 40
-    → Put d c x d′ end → length x ≡ 6 → end ≤ at + 102
-rest-short at a b c end i j k p l = omega (arith, p .place)
+        → (r : Ran) → r ≡ writtenRan n after → (t : Statement) → Shows t ns c
+        → RanAs (fitted (length d) t after) lent d d′ r
+    written h q r e t s = rw e (fits-in t lent after d (measured t s) none h (q t s))

@@ -27,13 +27,17 @@ use Rattle.booking.specs.Records.{SoundRecords}
 abbrev pub ranOf : Outcome → Standing → Ran
 ranOf o lent = record { answer = answerOf o; standing = standingAfter o lent }
 
+-- what an accepted run gives back: the statement's length, and the standing after it
+abbrev pub writtenRan : (length : ℕ) → Standing → Ran
+writtenRan n after = record { answer = record { refusal = 0; number = n }; standing = after }
+
 -- the two equations of a run's promise: what it gives back, and what the buffer d is after it
-abbrev pub Told : Outcome → Standing → (d d′ : List ℕ) → Ran → Type 0
-Told o lent d d′ r = (r ≡ ranOf o lent) × (d′ ≡ bufferAfter o d)
+abbrev pub RanAs : Outcome → Standing → (d d′ : List ℕ) → Ran → Type 0
+RanAs o lent d d′ r = (r ≡ ranOf o lent) × (d′ ≡ bufferAfter o d)
 
 -- what a run that is past 6, 8 and 9 comes to, with a buffer of `room` bytes
-abbrev pub goneThrough : Programme → Standing → (text : List ℕ) (room : ℕ) → Outcome
-goneThrough p s text room =
+abbrev pub runLines : Programme → Standing → (text : List ℕ) (room : ℕ) → Outcome
+runLines p s text room =
     runThrough (contractsIn p) s room (readFrom (treatiesIn (p .treaties)) 1 (s .day) (formsOf text))
 
 -- the numbers of a statement's lines after the events', where place T of cs holds what treaty T cedes in this run
@@ -50,15 +54,12 @@ pub record CanKeep (t : Treaties) (cs : List ℕ) (p : Progress) : Type 0 where
   pub records : SoundRecords (p .records)
   pub place : p .kept < 2 ^ 31
 
--- what a run takes that is past 6, 8 and 9: a place for each of the statement's numbers
-pub record CanRun (p : Programme) (s : Standing) (text kept : List ℕ) : Type 0 where
-  pub programme : valid p ≡ true
-  pub standing : standingPasses (contractsIn p) s ≡ true
-  pub short : length text ≤ 65536
-  pub room : 7 * length text + 1020 ≤ 10 * length kept
-
--- a run of a text of at most n bytes that is past 6, 8 and 9
-pub record Runs (n : ℕ) (p : Programme) (s : Standing) (text : List ℕ) : Type 0 where
+-- a run that is past 6, 8 and 9, of a text of at most n bytes
+pub record CanRun (n : ℕ) (p : Programme) (s : Standing) (text : List ℕ) : Type 0 where
   pub programme : valid p ≡ true
   pub standing : standingPasses (contractsIn p) s ≡ true
   pub short : length text ≤ n
+
+-- a place for each of a statement's numbers: seven for each ten bytes of the text, and 102
+pub record PlacesFor (text kept : List ℕ) : Type 0 where
+  pub room : 7 * length text + 1020 ≤ 10 * length kept

@@ -8,10 +8,10 @@ ghost use Rattle.text.specs.Buffer.{Put};
 ghost use Rattle.year.specs.Statement.{Statement};
 ghost use Rattle.year.specs.Run.{refused, fitted, runOf, bufferAfter};
 ghost use Rattle.statement.specs.Shows.{Fits, Shows};
-ghost use Rattle.engine.specs.Run.{ranOf, Told, goneThrough, restNumbers, CanKeep, CanRun, Runs};
+ghost use Rattle.engine.specs.Run.{ranOf, writtenRan, RanAs, runLines, restNumbers, CanKeep, CanRun, PlacesFor};
 use booking::progress::Progress;
 use lines::pass;
-use losses::table;
+use losses::register;
 use programme::Answer;
 use programme::contract::Programme;
 use programme::contract::Treaties;
@@ -35,6 +35,19 @@ fn refused(refusal: u64, number: u64, lent: Standing) -> Ran
     Ran {
         answer: Answer { refusal, number },
         standing: lent,
+    }
+}
+
+// An accepted run's statement of `length` bytes was written.
+fn written(length: usize, after: Standing) -> Ran
+    ensures { λ r. ⌜ r ≡ writtenRan length after ⌝ }
+{
+    Ran {
+        answer: Answer {
+            refusal: 0,
+            number: length as u64,
+        },
+        standing: after,
     }
 }
 
@@ -74,20 +87,14 @@ fn write_measured(
 ) -> Ran
     requires { ⌜ Fits (now numbers) counts ⌝ }
     ensures { λ r. ⌜ ((t : Statement) → Shows t (now (numbers .entry)) counts
-        → Told (fitted (length (now (buffer .entry))) t after) lent (now (buffer .entry)) (now (buffer .exit)) r) ⌝ }
+        → RanAs (fitted (length (now (buffer .entry))) t after) lent (now (buffer .entry)) (now (buffer .exit)) r) ⌝ }
 {
     let needed = print::put_statement(&mut buffer[..0], numbers, counts);
     if buffer.len() < needed {
         return refused(7, needed as u64, lent);
     }
     print::put_statement(buffer, numbers, counts);
-    Ran {
-        answer: Answer {
-            refusal: 0,
-            number: needed as u64,
-        },
-        standing: after,
-    }
+    written(needed, after)
 }
 
 // The same. A line has at most 1,600 bytes whatever its numbers are: a statement of few lines surely fits, and need
@@ -95,18 +102,12 @@ fn write_measured(
 fn write(numbers: &[u64], counts: Counts, lent: Standing, after: Standing, buffer: &mut [u8]) -> Ran
     requires { ⌜ Fits (now numbers) counts ⌝ }
     ensures { λ r. ⌜ ((t : Statement) → Shows t (now (numbers .entry)) counts
-        → Told (fitted (length (now (buffer .entry))) t after) lent (now (buffer .entry)) (now (buffer .exit)) r) ⌝ }
+        → RanAs (fitted (length (now (buffer .entry))) t after) lent (now (buffer .entry)) (now (buffer .exit)) r) ⌝ }
 {
     let lines = counts.events + counts.treaties + counts.risk + counts.cat + 1;
     if 1600 * lines <= buffer.len() {
         let length = print::put_statement(buffer, numbers, counts);
-        return Ran {
-            answer: Answer {
-                refusal: 0,
-                number: length as u64,
-            },
-            standing: after,
-        };
+        return written(length, after);
     }
     write_measured(numbers, counts, lent, after, buffer)
 }
@@ -119,15 +120,15 @@ fn through(
     buffer: &mut [u8],
     kept: &mut [u64],
 ) -> Ran
-    requires { ⌜ CanRun programme standing (now events) (now kept) ⌝ }
-    ensures { λ r. ⌜ Told (goneThrough programme standing (now (events .entry)) (length (now (buffer .entry))))
+    requires { ⌜ CanRun 65536 programme standing (now events) × PlacesFor (now events) (now kept) ⌝ }
+    ensures { λ r. ⌜ RanAs (runLines programme standing (now (events .entry)) (length (now (buffer .entry))))
         standing (now (buffer .entry)) (now (buffer .exit)) r ⌝ }
 {
     let treaties = programme.treaties;
-    let table = table::table_of(treaties);
+    let register = register::register_of(treaties);
     let start = Progress::first(programme, standing);
     let mut cessions = [0u64; 9];
-    let passed = pass::pass(events, table, start, kept, &mut cessions);
+    let passed = pass::pass(events, register, start, kept, &mut cessions);
     let refusal = passed.refusal;
     if refusal != 0 {
         return refused(refusal, passed.line, standing);
@@ -146,8 +147,8 @@ fn through(
 
 // The same with places for a text of at most 1,024 bytes, so that a short text does not pay for a long one.
 fn short(programme: Programme, standing: Standing, events: &[u8], buffer: &mut [u8]) -> Ran
-    requires { ⌜ Runs 1024 programme standing (now events) ⌝ }
-    ensures { λ r. ⌜ Told (goneThrough programme standing (now (events .entry)) (length (now (buffer .entry))))
+    requires { ⌜ CanRun 1024 programme standing (now events) ⌝ }
+    ensures { λ r. ⌜ RanAs (runLines programme standing (now (events .entry)) (length (now (buffer .entry))))
         standing (now (buffer .entry)) (now (buffer .exit)) r ⌝ }
 {
     let mut kept = [0u64; 819];
@@ -156,8 +157,8 @@ fn short(programme: Programme, standing: Standing, events: &[u8], buffer: &mut [
 
 // For one of at most 8,192 bytes.
 fn medium(programme: Programme, standing: Standing, events: &[u8], buffer: &mut [u8]) -> Ran
-    requires { ⌜ Runs 8192 programme standing (now events) ⌝ }
-    ensures { λ r. ⌜ Told (goneThrough programme standing (now (events .entry)) (length (now (buffer .entry))))
+    requires { ⌜ CanRun 8192 programme standing (now events) ⌝ }
+    ensures { λ r. ⌜ RanAs (runLines programme standing (now (events .entry)) (length (now (buffer .entry))))
         standing (now (buffer .entry)) (now (buffer .exit)) r ⌝ }
 {
     let mut kept = [0u64; 5837];
@@ -166,8 +167,8 @@ fn medium(programme: Programme, standing: Standing, events: &[u8], buffer: &mut 
 
 // For one of at most 65,536 bytes.
 fn long(programme: Programme, standing: Standing, events: &[u8], buffer: &mut [u8]) -> Ran
-    requires { ⌜ Runs 65536 programme standing (now events) ⌝ }
-    ensures { λ r. ⌜ Told (goneThrough programme standing (now (events .entry)) (length (now (buffer .entry))))
+    requires { ⌜ CanRun 65536 programme standing (now events) ⌝ }
+    ensures { λ r. ⌜ RanAs (runLines programme standing (now (events .entry)) (length (now (buffer .entry))))
         standing (now (buffer .entry)) (now (buffer .exit)) r ⌝ }
 {
     let mut kept = [0u64; 45978];

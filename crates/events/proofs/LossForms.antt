@@ -5,14 +5,13 @@ use mathlib.Core.Path.{_≡_, refl, sym, ap, _∙_}
 use mathlib.Core.Bool.{Bool, true, false}
 use mathlib.Core.List.{List, [], _∷_, _++_}
 use mathlib.Core.Option.{Option, none, some}
-use Prim.Native.Nat.{ℕ, zero, suc, _+_, _-_, _%_, _≤_, _<_}
+use Prim.Native.Nat.{ℕ, zero, suc, _+_, _-_, _≤_, _<_}
 use native.Mathlib.Omega.{arith}
 use lib.ListN.{length, drop, getD, length-drop, length-append, drop-of-length-le}
 use lib.Seq.{drop-cons}
-use Rattle.lists.proofs.Cases.{by-test, by-lt}
-use Rattle.text.specs.Number.{printed}
-use Rattle.text.specs.Template.{capital, filled, matched, matchedAt}
-use Rattle.text.proofs.Printing.{by-digits, printed-one, printed-more}
+use Rattle.lists.proofs.Cases.{by-lt}
+use Rattle.text.specs.Template.{matched, matchedAt}
+use Rattle.text.proofs.Lengths.{filled-long}
 use Rattle.text.proofs.Forms.{matched-read}
 use Rattle.text.proofs.Matching.{match-found}
 use Rattle.treaty.specs.declared.Loss.{Loss}
@@ -22,24 +21,6 @@ use Rattle.events.specs.declared.form.LossForm.{LossForm}
 use Rattle.events.specs.declared.form.LossForm.the-variants as form
 use Rattle.events.specs.Event.{eventText, lossText, lossFrom, closes, lossesUpTo, datedOn, eventOf}
 use Rattle.events.specs.Form.{headOf, lossAt}
-
--- a number is printed with a digit or more
-printed-long : (n : ℕ) (s : List ℕ) → suc (length s) ≤ length (printed n s)
-printed-long =
-    by-digits (λ n. (s : List ℕ) → suc (length s) ≤ length (printed n s))
-    (λ n l s. rw (printed-one n s l) (omega arith))
-    (λ n l ih s. rw (printed-more n s l) (omega (arith, ih ((48 + n % 10) ∷ s))))
-
--- a template takes a byte or more for each of its own
-filled-long : (t ns s : List ℕ) → length t + length s ≤ length (filled t ns s)
-unfolding filled
-filled-long [] ns s = omega arith
-filled-long (b ∷ t) ns s =
-    by-test (capital b)
-    (λ e.
-    let digits = printed-long (getD ns 0 0) (filled t (drop 1 ns) s) in
-    simp (filled, ← e) (omega (arith, filled-long t (drop 1 ns) s, digits)))
-    (λ e. simp (filled, ← e) (omega (arith, filled-long t ns s)))
 
 -- a template read at a place of a text: what is left begins at a later place
 pub record Taken (t s : List ℕ) (at : ℕ) (p : List ℕ × List ℕ) (next : ℕ) : Type 0 where

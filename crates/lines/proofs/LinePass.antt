@@ -34,8 +34,8 @@ use Rattle.events.specs.Read.{EventsRead, turnedDown, events, eventBefore, unle
 use Rattle.events.proofs.LossForms.{no-event, no-loss-form, further, event-read, event-open, bracket-left}
 use Rattle.events.proofs.Reading.{EventLawful, event-lawful}
 use Rattle.year.specs.Statement.{totals, amountsNumbers}
-use Rattle.losses.specs.declared.table.Table.{Table}
-use Rattle.losses.specs.Table.{numbered, lackAt}
+use Rattle.losses.specs.declared.register.Register.{Register}
+use Rattle.losses.specs.Register.{numbered, lackAt}
 use Rattle.losses.specs.Cede.{lossesFrom, cededAdded}
 use Rattle.losses.proofs.Added.{added-length}
 use Rattle.losses.proofs.Added as by
@@ -44,8 +44,8 @@ use Rattle.lines.specs.declared.pass.Passed.{Passed}
 use Rattle.booking.specs.Records.{yearIn}
 use Rattle.booking.specs.Progress.{CanBook, Booked, Stands}
 use Rattle.lines.specs.Pass.{CanPass, passIs}
-use Rattle.losses.proofs.TableFacts.{treaties, cedes, by-number, places-terms, lack-le, nine-lacks}
-use Rattle.losses.proofs.TableFacts.{lacking-same}
+use Rattle.losses.proofs.RegisterFacts.{treaties, cedes, by-number, places-terms, lack-le, nine-lacks}
+use Rattle.losses.proofs.RegisterFacts.{lacking-same}
 use Rattle.lines.proofs.LossPass.{Listed, none-listed, count-small, same-numbers, one-listed, kept-losses}
 use Rattle.booking.proofs.EventBounds.{SoundLayers, Bookable, amounts-le}
 use Rattle.booking.proofs.Booking.{one-booked, added-le}
@@ -68,13 +68,13 @@ before-append [] fs r = refl
 before-append (e ∷ es) fs r = ap (eventBefore e) (before-append es fs r)
 
 -- Before line `number + 1`, which begins at the place `at`.
-pub record Going (table : Table) (start : Progress) (text d₀ cs₀ lacks ns : List ℕ) (p : Progress) (d cs : List ℕ)
-    (number at : ℕ) : Type 0 where
-  pub can : CanPass text table start cs₀
-  pub lacking-is : lacks ≡ table .lacking
+pub record Going (register : Register) (start : Progress) (text d₀ cs₀ lacks ns : List ℕ) (p : Progress)
+    (d cs : List ℕ) (number at : ℕ) : Type 0 where
+  pub can : CanPass text register start cs₀
+  pub lacking-is : lacks ≡ register .lacking
   pub places : length ns ≡ 192
   pub es : List Event
-  pub stands : Stands (treaties table) start d₀ cs₀ es p d cs
+  pub stands : Stands (treaties register) start d₀ cs₀ es p d cs
   pub within : at ≤ length text
   pub early : number ≤ at
   pub few : 10 * p .kept ≤ 7 * at
@@ -82,13 +82,14 @@ pub record Going (table : Table) (start : Progress) (text d₀ cs₀ lacks ns : 
   pub cessions-le : Each (λ (n : ℕ). n ≤ 64 * 10 ^ 12 * at) cs
   pub nine : length cs ≡ 9
   pub same-kept : length d ≡ length d₀
-  pub rest : readFrom (treaties table) 1 (start .day) (formsOf text)
-      ≡ eventsBefore es (readFrom (treaties table) (number + 1) (p .day) (formsOf (drop at text)))
+  pub rest : readFrom (treaties register) 1 (start .day) (formsOf text)
+      ≡ eventsBefore es (readFrom (treaties register) (number + 1) (p .day) (formsOf (drop at text)))
 
 -- before the first line
-pub going-begins : (table : Table) (start : Progress) (text d cs lacks ns : List ℕ) → CanPass text table start cs
-    → lacks ≡ table .lacking → length ns ≡ 192 → Going table start text d cs lacks ns start d cs 0 0
-going-begins table start text d cs lacks ns c l n = record {
+pub going-begins : (register : Register) (start : Progress) (text d cs lacks ns : List ℕ)
+    → CanPass text register start cs → lacks ≡ register .lacking → length ns ≡ 192
+    → Going register start text d cs lacks ns start d cs 0 0
+going-begins register start text d cs lacks ns c l n = record {
   can = c;
   lacking-is = l;
   places = n;
@@ -123,10 +124,10 @@ refuses : (n w : ℕ) (e : Event) (r : EventsRead) → (n ≡ 0 → ⊥) → unl
 refuses zero w e r h = absurd (h refl)
 refuses (suc n) w e r h = refl
 
-module _ (table : Table) (start : Progress) (text d₀ cs₀ lacks ns : List ℕ) (p : Progress) (d cs : List ℕ)
-    (number at : ℕ) (g : Going table start text d₀ cs₀ lacks ns p d cs number at) where
+module _ (register : Register) (start : Progress) (text d₀ cs₀ lacks ns : List ℕ) (p : Progress) (d cs : List ℕ)
+    (number at : ℕ) (g : Going register start text d₀ cs₀ lacks ns p d cs number at) where
   abbrev answer : EventsRead
-  answer = readFrom (treaties table) 1 (start .day) (formsOf text)
+  answer = readFrom (treaties register) 1 (start .day) (formsOf text)
 
   pub kept-same : length d ≡ length d₀
   kept-same = g .same-kept
@@ -135,19 +136,19 @@ module _ (table : Table) (start : Progress) (text d₀ cs₀ lacks ns : List ℕ
   cessions-same = g .nine ∙ sym (ap length (g .can .cessions))
 
   pub lacking-nine : length lacks ≡ 9
-  lacking-nine = nine-lacks table (g .can .treaties) (g .can .by-number) lacks (g .lacking-is)
+  lacking-nine = nine-lacks register (g .can .treaties) (g .can .by-number) lacks (g .lacking-is)
 
   -- a refusal, as the answer of the pass
   told : (n w : ℕ) (d′ cs′ : List ℕ) (r : Passed) → r ≡ record { refusal = n; line = w; progress = start }
-      → answer ≡ turnedDown n w → (n ≡ 0 → ⊥) → passIs (treaties table) start text d₀ d′ cs₀ cs′ r answer
-  told n w d′ cs′ r e q z = rw q (ap (λ (x : Passed). x .refusal) e, ap (λ (x : Passed). x .line) e, z)
+      → answer ≡ turnedDown n w → (n ≡ 0 → ⊥) → passIs (treaties register) start text d₀ d′ cs₀ cs′ r answer
+  told n w d′ cs′ r e q z = rw q (e, z)
 
   -- no line is left
   pub all-read : (r : Passed) → r ≡ record { refusal = 0; line = 0; progress = p } → length text ≤ at
-      → passIs (treaties table) start text d₀ d cs₀ cs r answer
+      → passIs (treaties register) start text d₀ d cs₀ cs r answer
   unfolding readFrom
   all-read r e h =
-      let none-left : readFrom (treaties table) (number + 1) (p .day) (formsOf (drop at text)) ≡ events [] =
+      let none-left : readFrom (treaties register) (number + 1) (p .day) (formsOf (drop at text)) ≡ events [] =
       rw (line-none text at h) in
       let whole = g .rest ∙ ap (eventsBefore (g .es)) none-left ∙ before-events (g .es) [] in
       rw (whole, append-nil (g .es), e) (refl, g .stands, omega (arith, g .few, g .within))
@@ -155,10 +156,10 @@ module _ (table : Table) (start : Progress) (text d₀ cs₀ lacks ns : List ℕ
   module _ (e : ℕ) (q : e ≡ lineEnd text at) (h : at < length text) where
     -- bytes after the last line feed
     pub no-feed : (r : Passed) → r ≡ record { refusal = 10; line = number + 1; progress = start } → e ≡ length text
-        → passIs (treaties table) start text d₀ d cs₀ cs r answer
+        → passIs (treaties register) start text d₀ d cs₀ cs r answer
     unfolding readFrom
     no-feed r a l =
-        let last : readFrom (treaties table) (number + 1) (p .day) (formsOf (drop at text))
+        let last : readFrom (treaties register) (number + 1) (p .day) (formsOf (drop at text))
         ≡ turnedDown 10 (number + 1) = rw (line-last text at e q h l) in
         told 10 (number + 1) d cs r a
         (g .rest ∙ ap (eventsBefore (g .es)) last ∙ before-refused (g .es) 10 (number + 1)) (λ z. omega arith)
@@ -181,10 +182,10 @@ module _ (table : Table) (start : Progress) (text d₀ cs₀ lacks ns : List ℕ
 
       -- a line that is no event form
       pub no-form : (r : Passed) → r ≡ record { refusal = 10; line = number + 1; progress = start }
-          → eventOf line ≡ none → passIs (treaties table) start text d₀ d cs₀ cs r answer
+          → eventOf line ≡ none → passIs (treaties register) start text d₀ d cs₀ cs r answer
       unfolding readFrom
       no-form r a v =
-          let here : readFrom (treaties table) (number + 1) (p .day) (formsOf (drop at text))
+          let here : readFrom (treaties register) (number + 1) (p .day) (formsOf (drop at text))
           ≡ turnedDown 10 (number + 1) = rw (forms, v) in
           told 10 (number + 1) d cs r a
           (g .rest ∙ ap (eventsBefore (g .es)) here ∙ before-refused (g .es) 10 (number + 1)) (λ z. omega arith)
@@ -192,7 +193,7 @@ module _ (table : Table) (start : Progress) (text d₀ cs₀ lacks ns : List ℕ
       module _ (u : Head) (w : u ≡ headOf line) where
         -- a line that does not begin as an event form
         pub no-head : (r : Passed) → r ≡ record { refusal = 10; line = number + 1; progress = start } → u ≡ NoEvent
-            → passIs (treaties table) start text d₀ d cs₀ cs r answer
+            → passIs (treaties register) start text d₀ d cs₀ cs r answer
         no-head r a y = no-form r a (no-event line u w y)
 
         -- one that does
@@ -210,14 +211,14 @@ module _ (table : Table) (start : Progress) (text d₀ cs₀ lacks ns : List ℕ
         lacks-fit n m q =
             omega (
               arith,
-              lack-le table (g .can .treaties) (g .can .by-number) lacks (g .lacking-is) n m q,
+              lack-le register (g .can .treaties) (g .can .by-number) lacks (g .lacking-is) n m q,
               k .few-lacks,
               count-small lacks line day ns ns′ place count out lk k,
             )
 
         module _ (more : place + 1 < length line) (f : LossForm) (w : f ≡ lossAt line place) where
           pub no-loss : (r : Passed) → r ≡ record { refusal = 10; line = number + 1; progress = start }
-              → f ≡ form.NoLoss → passIs (treaties table) start text d₀ d cs₀ cs r answer
+              → f ≡ form.NoLoss → passIs (treaties register) start text d₀ d cs₀ cs r answer
           no-loss r a y = no-form r a (no-loss-form line day (k .xs) place (k .ahead) more f w y)
 
           module _ (x : Loss) (next : ℕ) (y : f ≡ form.Loss x next) where
@@ -229,28 +230,28 @@ module _ (table : Table) (start : Progress) (text d₀ cs₀ lacks ns : List ℕ
                 → Listed lacks line day ns ns″ next (count + 1) (out + o) (lk + m)
             next-listed o m end ns″ a i q kept =
                 one-listed lacks line day ns ns′ place count out lk k f x next o m end ns″ more w y a i q
-                (lack-le table (g .can .treaties) (g .can .by-number) lacks (g .lacking-is) (x .treaty) m q) kept
+                (lack-le register (g .can .treaties) (g .can .by-number) lacks (g .lacking-is) (x .treaty) m q) kept
 
       module _ (x : Event) (v : eventOf line ≡ some x) where
         -- an event with a fault
-        pub at-fault : (n : ℕ) → n ≡ eventFault (treaties table) (p .day) x → (n ≡ 0 → ⊥)
+        pub at-fault : (n : ℕ) → n ≡ eventFault (treaties register) (p .day) x → (n ≡ 0 → ⊥)
             → (r : Passed) → r ≡ record { refusal = n; line = number + 1; progress = start }
-            → passIs (treaties table) start text d₀ d cs₀ cs r answer
+            → passIs (treaties register) start text d₀ d cs₀ cs r answer
         unfolding readFrom
         at-fault n f z r a =
-            let here : readFrom (treaties table) (number + 1) (p .day) (formsOf (drop at text))
+            let here : readFrom (treaties register) (number + 1) (p .day) (formsOf (drop at text))
             ≡ turnedDown n (number + 1) = rw (forms, v, ← f) (refuses n (number + 1) x _ z) in
             told n (number + 1) d cs r a
             (g .rest ∙ ap (eventsBefore (g .es)) here ∙ before-refused (g .es) n (number + 1)) z
 
         -- the lines after an event without a fault
-        onward : eventFault (treaties table) (p .day) x ≡ 0 → answer
+        onward : eventFault (treaties register) (p .day) x ≡ 0 → answer
             ≡ eventsBefore (g .es ++ (x ∷ []))
-            (readFrom (treaties table) (number + 1 + 1) (x .day) (formsOf (drop (e + 1) text)))
+            (readFrom (treaties register) (number + 1 + 1) (x .day) (formsOf (drop (e + 1) text)))
         unfolding readFrom
         onward z =
-            let here : readFrom (treaties table) (number + 1) (p .day) (formsOf (drop at text))
-            ≡ eventBefore x (readFrom (treaties table) (number + 1 + 1) (x .day) (formsOf (drop (e + 1) text))) =
+            let here : readFrom (treaties register) (number + 1) (p .day) (formsOf (drop at text))
+            ≡ eventBefore x (readFrom (treaties register) (number + 1 + 1) (x .day) (formsOf (drop (e + 1) text))) =
             rw (forms, v, z) in
             g .rest ∙ ap (eventsBefore (g .es)) here ∙ sym (before-append (g .es) (x ∷ []) _)
 
@@ -261,21 +262,21 @@ module _ (table : Table) (start : Progress) (text d₀ cs₀ lacks ns : List ℕ
         abbrev event : Event
         event = record { day = day; losses = k .xs }
 
-        event-fault : faultOf out count day (p .day) lk ≡ eventFault (treaties table) (p .day) event
+        event-fault : faultOf out count day (p .day) lk ≡ eventFault (treaties register) (p .day) event
         unfolding eventFault eventOutside
         event-fault =
             rw (
               k .outsides,
               k .counted,
               k .lacked,
-              lacking-same table (g .can .treaties) (g .can .by-number) lacks (g .lacking-is) (k .xs),
+              lacking-same register (g .can .treaties) (g .can .by-number) lacks (g .lacking-is) (k .xs),
             )
 
         read : closed ≡ true → eventOf line ≡ some event
         read y = event-read line day (k .xs) place (k .ahead) ended closed c y
 
         pub faulty : (r : Passed) → r ≡ record { refusal = n; line = number + 1; progress = start } → (n ≡ 0 → ⊥)
-            → passIs (treaties table) start text d₀ d cs₀ cs r answer
+            → passIs (treaties register) start text d₀ d cs₀ cs r answer
         faulty r a z =
             by-test closed
             (λ y. at-fault event (read (sym y)) n (f ∙ rw (← y) event-fault) z r a)
@@ -288,11 +289,11 @@ module _ (table : Table) (start : Progress) (text d₀ cs₀ lacks ns : List ℕ
           is-closed =
               by-test closed sym (λ y. let ten : n ≡ 10 = f ∙ rw (← y) in absurd (omega arith))
 
-          fine : eventFault (treaties table) (p .day) event ≡ 0
+          fine : eventFault (treaties register) (p .day) event ≡ 0
           fine = sym event-fault ∙ sym (f ∙ rw is-closed) ∙ z
 
           lawful : EventLawful event
-          lawful = event-lawful (treaties table) (p .day) event fine
+          lawful = event-lawful (treaties register) (p .day) event fine
 
           pub count-few : count ≤ 64
           count-few = omega (arith, k .counted, lawful .few)
@@ -310,24 +311,26 @@ module _ (table : Table) (start : Progress) (text d₀ cs₀ lacks ns : List ℕ
           small = each-so (λ (m : ℕ). m ≤ 64 * 10 ^ 12 * at) (λ (m : ℕ). m ≤ 2 ^ 62)
               (λ m i. omega (arith, g .within, g .can .short))
 
-          pub can-book : CanBook p (table .numbered) (take (3 * count) ns′) cs
+          pub can-book : CanBook p (register .numbered) (take (3 * count) ns′) cs
           can-book = record {
             records = g .stands .sound;
-            treaties = treaties table;
-            by-number = by-number table (g .can .treaties) (g .can .by-number);
-            cedes = cedes table (g .can .treaties) (g .can .by-number);
-            terms = places-terms table (g .can .treaties) (g .can .by-number);
-            losses = rw kept (lawful .losses);
-            few = rw kept (lawful .few);
+            cede = record {
+              treaties = treaties register;
+              by-number = by-number register (g .can .treaties) (g .can .by-number);
+              terms = places-terms register (g .can .treaties) (g .can .by-number);
+              losses = rw kept (lawful .losses);
+              few = rw kept (lawful .few);
+              places = g .nine;
+              amounts = small cs (g .cessions-le);
+            };
+            cedes = cedes register (g .can .treaties) (g .can .by-number);
             totals = small (amountsNumbers (p .total)) (g .totals-le);
-            places = g .nine;
-            cessions = small cs (g .cessions-le);
             kept = omega (arith, g .few, g .within, g .can .short);
           }
 
-          bookable : Bookable (treaties table) (yearIn (p .records)) event
+          bookable : Bookable (treaties register) (yearIn (p .records)) event
           bookable = record {
-            cedes = cedes table (g .can .treaties) (g .can .by-number);
+            cedes = cedes register (g .can .treaties) (g .can .by-number);
             risk = tier-layers (p .records .risk) (g .stands .sound .risk);
             cat = tier-layers (p .records .cat) (g .stands .sound .cat);
             losses = lawful .losses;
@@ -336,12 +339,12 @@ module _ (table : Table) (start : Progress) (text d₀ cs₀ lacks ns : List ℕ
 
           -- one event more is booked; its line has ten bytes or more
           pub goes-on : (p′ : Progress) (d′ cs′ : List ℕ)
-              → ((ts : List Treaty) → table .numbered .places ≡ numbered ts
+              → ((ts : List Treaty) → register .numbered .places ≡ numbered ts
               → Booked ts p (record { day = day; losses = lossesFrom (take (3 * count) ns′) }) d d′ cs cs′ p′)
-              → length d′ ≡ length d → Going table start text d₀ cs₀ lacks ns′ p′ d′ cs′ (number + 1) (e + 1)
+              → length d′ ≡ length d → Going register start text d₀ cs₀ lacks ns′ p′ d′ cs′ (number + 1) (e + 1)
           goes-on p′ d′ cs′ books same =
-              let places = by-number table (g .can .treaties) (g .can .by-number) in
-              let booked = rw kept at (books (treaties table) places) in
+              let places = by-number register (g .can .treaties) (g .can .by-number) in
+              let booked = rw kept at (books (treaties register) places) in
               let long = k .ahead .begun in
               let inside = bracket-left line day (k .xs) place (k .ahead) ended closed c is-closed in
               record {
@@ -349,7 +352,7 @@ module _ (table : Table) (start : Progress) (text d₀ cs₀ lacks ns : List ℕ
                 lacking-is = g .lacking-is;
                 places = same-numbers lacks line day ns ns′ place count out lk k ∙ g .places;
                 es = g .es ++ (event ∷ []);
-                stands = one-booked (treaties table) start d₀ cs₀ (g .es) p d cs (g .stands) event d′ cs′ p′ booked;
+                stands = one-booked (treaties register) start d₀ cs₀ (g .es) p d cs (g .stands) event d′ cs′ p′ booked;
                 within = omega arith;
                 early = omega (arith, g .early);
                 few = omega (arith, g .few, booked .kept .place, line-length);
@@ -357,16 +360,16 @@ module _ (table : Table) (start : Progress) (text d₀ cs₀ lacks ns : List ℕ
                     rw (booked .total)
                     (added-le (64 * 10 ^ 12 * at) (64 * 10 ^ 13) (64 * 10 ^ 12 * (e + 1)) (p .total) _
                     (omega (arith, line-length)) (g .totals-le)
-                    (amounts-le (treaties table) (yearIn (p .records)) event bookable));
+                    (amounts-le (treaties register) (yearIn (p .records)) event bookable));
                 cessions-le =
                     rw (booked .cessions)
                     (each-so (λ (m : ℕ). m ≤ 64 * 10 ^ 12 * at + 10000000000000 * length (k .xs))
                     (λ (m : ℕ). m ≤ 64 * 10 ^ 12 * (e + 1))
                     (λ m i. omega (arith, lawful .few, line-length))
-                    (cededAdded (treaties table) [] cs (k .xs))
-                    (by.added-le (treaties table) (cedes table (g .can .treaties) (g .can .by-number))
+                    (cededAdded (treaties register) [] cs (k .xs))
+                    (by.added-le (treaties register) (cedes register (g .can .treaties) (g .can .by-number))
                     (64 * 10 ^ 12 * at) [] cs (k .xs) (g .cessions-le) (lawful .losses)));
-                nine = rw (booked .cessions) (added-length (treaties table) [] cs (k .xs) ∙ g .nine);
+                nine = rw (booked .cessions) (added-length (treaties register) [] cs (k .xs) ∙ g .nine);
                 same-kept = same ∙ g .same-kept;
                 rest = onward event (read is-closed) fine ∙ rw (booked .day);
               }

@@ -20,7 +20,7 @@ use Rattle.events.specs.declared.form.LossForm.the-variants as form
 use Rattle.events.specs.Rules.{lossOutside}
 use Rattle.events.specs.Form.{headOf, lossAt}
 use Rattle.events.proofs.LossForms.{Ahead, none-ahead, one-ahead}
-use Rattle.losses.specs.Table.{lackAt}
+use Rattle.losses.specs.Register.{lackAt}
 use Rattle.losses.specs.Cede.{lossesFrom}
 
 -- losses as numbers, three a loss

@@ -10,18 +10,18 @@ use Rattle.treaty.specs.declared.Treaty.{Treaty}
 use Rattle.programme.specs.Valid.{validTreaties}
 use Rattle.events.specs.Read.{EventsRead, turnedDown, events}
 use Rattle.year.specs.Statement.{totals}
-use Rattle.losses.specs.declared.table.Table.{Table}
-use Rattle.losses.specs.Table.{tableOf}
+use Rattle.losses.specs.declared.register.Register.{Register}
+use Rattle.losses.specs.Register.{registerOf}
 use Rattle.booking.specs.declared.progress.Progress.{Progress}
 use Rattle.lines.specs.declared.pass.Passed.{Passed}
 use Rattle.booking.specs.Records.{SoundRecords}
 use Rattle.booking.specs.Progress.{Stands}
 
 -- a progress before the first event, and amounts of 0 for each number T
-pub record CanPass (text : List ℕ) (table : Table) (start : Progress) (cs : List ℕ) : Type 0 where
+pub record CanPass (text : List ℕ) (register : Register) (start : Progress) (cs : List ℕ) : Type 0 where
   pub short : length text ≤ 65536
-  pub treaties : validTreaties (table .treaties) ≡ true
-  pub by-number : table ≡ tableOf (table .treaties)
+  pub treaties : validTreaties (register .treaties) ≡ true
+  pub by-number : register ≡ registerOf (register .treaties)
   pub records : SoundRecords (start .records)
   pub total : start .total ≡ totals []
   pub kept : start .kept ≡ 0
@@ -30,6 +30,7 @@ pub record CanPass (text : List ℕ) (table : Table) (start : Progress) (cs : Li
 -- what a pass comes to, by what reading the text comes to: the refusal and its line, or the events booked; at most
 -- seven numbers are kept for each ten bytes
 abbrev pub passIs : List Treaty → Progress → (text d d′ cs cs′ : List ℕ) → Passed → EventsRead → Type 0
-passIs ts start text d d′ cs cs′ r (turnedDown n w) = (r .refusal ≡ n) × (r .line ≡ w) × (n ≡ 0 → ⊥)
+passIs ts start text d d′ cs cs′ r (turnedDown n w) =
+    (r ≡ record { refusal = n; line = w; progress = start }) × (n ≡ 0 → ⊥)
 passIs ts start text d d′ cs cs′ r (events es) =
     (r .refusal ≡ 0) × Stands ts start d cs es (r .progress) d′ cs′ × (10 * r .progress .kept ≤ 7 * length text)

@@ -9,8 +9,8 @@ use events::form;
 use events::form::Head;
 use events::form::LossForm;
 use events::rule;
-use losses::table;
-use losses::table::Table;
+use losses::register;
+use losses::register::Register;
 use text::line;
 
 // What the pass comes to: a refusal and its line, with the progress that it began with, or refusal 0 and the progress
@@ -35,17 +35,17 @@ fn refused(refusal: u64, line: u64, start: Progress) -> Passed
 // The first line at fault, or the progress after all lines.
 pub fn pass(
     text: &[u8],
-    table: Table,
+    register: Register,
     start: Progress,
     kept: &mut [u64],
     cessions: &mut [u64],
 ) -> Passed
-    requires { ⌜ CanPass (now text) table start (now cessions) ⌝ }
-    ensures { λ r. ⌜ passIs (treatiesIn (table .treaties)) start (now (text .entry)) (now (kept .entry))
+    requires { ⌜ CanPass (now text) register start (now cessions) ⌝ }
+    ensures { λ r. ⌜ passIs (treatiesIn (register .treaties)) start (now (text .entry)) (now (kept .entry))
         (now (kept .exit)) (now (cessions .entry)) (now (cessions .exit)) r
-        (readFrom (treatiesIn (table .treaties)) 1 (start .day) (formsOf (now (text .entry)))) ⌝ }
+        (readFrom (treatiesIn (register .treaties)) 1 (start .day) (formsOf (now (text .entry)))) ⌝ }
 {
-    let lacking = table.lacking;
+    let lacking = register.lacking;
     let mut losses = [0u64; 192];
     let mut progress = start;
     let mut number: u64 = 0;
@@ -69,7 +69,7 @@ pub fn pass(
                 break 'lines;
             };
             outside += rule::loss_outside(loss);
-            lacks += table::lacks(&lacking, loss.treaty);
+            lacks += register::lacks(&lacking, loss.treaty);
             scratch::keep(
                 &mut losses,
                 3 * count,
@@ -84,7 +84,7 @@ pub fn pass(
             return refused(fault, number, start);
         }
         at = end + 1;
-        progress = progress.book(table.numbered, day, &losses[..3 * count], kept, cessions);
+        progress = progress.book(register.numbered, day, &losses[..3 * count], kept, cessions);
     }
     if at < text.len() {
         return refused(10, number, start);

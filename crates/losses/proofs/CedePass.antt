@@ -22,9 +22,9 @@ use Rattle.treaty.specs.Losses.{grossOf, cededIn, cededOfEach, leftOfEach}
 use Rattle.treaty.specs.Ranges.{TermsInRange, LossInRange, Cedable}
 use Rattle.treaty.proofs.Cessions.{ceded-le-amount}
 use Rattle.programme.specs.Contracts.{noTreaty}
-use Rattle.losses.specs.declared.table.ByNumber.{ByNumber}
-use Rattle.losses.specs.Table.{eachNumber, withNumber, numbered}
-use Rattle.losses.specs.Cede.{lossesFrom, cededAdded, CedesEach, CanCede}
+use Rattle.losses.specs.declared.register.ByNumber.{ByNumber}
+use Rattle.losses.specs.Register.{eachNumber, withNumber, numbered}
+use Rattle.losses.specs.Cede.{lossesFrom, cededAdded, AfterTreaties, CanCede}
 use Rattle.losses.proofs.Stores.{each-sum, at-most, sum-at}
 use Rattle.losses.proofs.Numbers.{at-number}
 use Rattle.losses.proofs.Triples.{losses-count}
@@ -38,11 +38,11 @@ pub record Columns (ts : List Treaty) (xs : List Loss) (l₀ cs₀ : List ℕ) (
   pub gross : g + grossOf after ≡ grossOf xs
   pub ceded : c + total (cededOfEach ts before after) ≡ total (cededOfEach ts [] xs)
   pub left : sets l i (leftOfEach ts before after) ≡ sets l₀ 0 (leftOfEach ts [] xs)
-  pub by-treaty : cededAdded ts before cs after ≡ cededAdded ts [] cs₀ xs
+  pub cessions : cededAdded ts before cs after ≡ cededAdded ts [] cs₀ xs
 
 module _ (ts : List Treaty) (xs : List Loss) (l₀ cs₀ : List ℕ) where
   no-column : Columns ts xs l₀ cs₀ [] xs 0 0 0 l₀ cs₀
-  no-column = record { gross = zero-add _; ceded = zero-add _; left = refl; by-treaty = refl }
+  no-column = record { gross = zero-add _; ceded = zero-add _; left = refl; cessions = refl }
 
   -- one loss more, of which d is ceded
   one-column : (before : List Loss) (x : Loss) (after : List Loss) (i g c : ℕ) (l cs : List ℕ)
@@ -53,18 +53,20 @@ module _ (ts : List Treaty) (xs : List Loss) (l₀ cs₀ : List ℕ) where
     gross = omega (arith, h .gross);
     ceded = omega (arith, h .ceded);
     left = h .left;
-    by-treaty = h .by-treaty;
+    cessions = h .cessions;
   }
 
   -- no loss is ahead
   all-columns : (before : List Loss) (i g c : ℕ) (l cs : List ℕ) → Columns ts xs l₀ cs₀ before [] i g c l cs
-      → CedesEach ts xs l₀ l cs₀ cs (record { gross = g; ceded = c })
-  all-columns before i g c l cs h = record {
-    gross = sym (add-zero g) ∙ h .gross;
-    ceded = sym (add-zero c) ∙ h .ceded;
-    left = h .left;
-    by-treaty = h .by-treaty;
-  }
+      → AfterTreaties ts xs cs₀ cs (record { gross = g; ceded = c }) × (l ≡ sets l₀ 0 (leftOfEach ts [] xs))
+  all-columns before i g c l cs h = (
+    record {
+      gross = sym (add-zero g) ∙ h .gross;
+      ceded = sym (add-zero c) ∙ h .ceded;
+      cessions = h .cessions;
+    },
+    h .left,
+  )
 
 -- The same of the first i of k losses, for whichever treaties the places ps hold, with what keeps the sums small. U by
 -- number is `us`.
@@ -88,7 +90,8 @@ pub record Ceding (ps : List Treaty) (xs : List Loss) (k : ℕ) (l₀ cs₀ l cs
   pub columns : (ts : List Treaty) → ps ≡ numbered ts → Columns ts xs l₀ cs₀ (take i xs) (drop i xs) i g c l cs
 
 -- before the first loss
-module _ (table : ByNumber) (ns l cs : List ℕ) (nine : length (table .places) ≡ 9) (can : CanCede table ns l cs) where
+module _ (table : ByNumber) (ns l cs : List ℕ) (nine : length (table .places) ≡ 9) (can : CanCede table ns cs)
+    (room : length (lossesFrom ns) ≤ length l) where
   pub none-ceded : Ceding (table .places) (lossesFrom ns) (length ns / 3) l cs l cs (map (λ n. 0) eachNumber) 0 0 0
   none-ceded = record {
     count = sym (losses-count ns);
@@ -97,7 +100,7 @@ module _ (table : ByNumber) (ns l cs : List ℕ) (nine : length (table .places) 
     losses = can .losses;
     terms = can .terms;
     nine = nine;
-    room = omega (arith, losses-count ns, can .room);
+    room = omega (arith, losses-count ns);
     same-left = refl;
     same-sums = refl;
     nine-sums = can .places;
@@ -198,7 +201,7 @@ module _ {ps : List Treaty} {xs : List Loss} {k : ℕ} {l₀ cs₀ l cs us : Lis
 
   -- after the last loss
   pub all-ceded : k ≤ i → (ts : List Treaty) → ps ≡ numbered ts
-      → CedesEach ts xs l₀ l cs₀ cs (record { gross = g; ceded = c })
+      → AfterTreaties ts xs cs₀ cs (record { gross = g; ceded = c }) × (l ≡ sets l₀ 0 (leftOfEach ts [] xs))
   all-ceded ended ts e =
       all-columns ts xs l₀ cs₀ (take i xs) i g c l cs
       (rw (drop-of-length-le xs {i = i} (omega (arith, h .count))) at (h .columns ts e))

@@ -13,7 +13,7 @@ use Rattle.treaty.specs.declared.Loss.{Loss}
 use Rattle.treaty.specs.Treaty.{cededOf, cededOfLoss, ownLosses}
 use Rattle.treaty.specs.Losses.{grossOf, cededIn}
 use Rattle.programme.specs.Contracts.{noTreaty}
-use Rattle.losses.specs.Table.{withNumber}
+use Rattle.losses.specs.Register.{withNumber}
 
 -- the amount of a loss if its number is n
 abbrev pub amountAt : ℕ → Loss → ℕ

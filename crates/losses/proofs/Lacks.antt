@@ -5,10 +5,7 @@ use mathlib.Core.List.{List}
 use Prim.Native.Nat.{ℕ, _≤_, _<_}
 use borrow.Author.Tests.{lt-ltb, le-ltb}
 use lib.ListN.{getD}
-use Rattle.programme.specs.declared.contract.Treaties.{Treaties}
-use Rattle.programme.specs.Contracts.{treatiesIn}
-use Rattle.losses.specs.declared.table.ByNumber.{ByNumber}
-use Rattle.losses.specs.Table.{numbered, lackingNumbers, tableOf, lackAt}
+use Rattle.losses.specs.Register.{lackAt}
 
 module _ (ls : List ℕ) (n : ℕ) where
   pub lacks-within : n < 9 → getD ls n 0 ≡ lackAt ls n
@@ -18,8 +15,3 @@ module _ (ls : List ℕ) (n : ℕ) where
   pub lacks-above : 9 ≤ n → 1 ≡ lackAt ls n
   unfolding lackAt
   lacks-above h = sym (rw (lackAt, le-ltb n 9 h))
-
--- a table, put together
-pub table-made : (ts : Treaties) (b : ByNumber) (ls : List ℕ) → b .places ≡ numbered (treatiesIn ts)
-    → ls ≡ lackingNumbers (treatiesIn ts) → record { treaties = ts; numbered = b; lacking = ls } ≡ tableOf ts
-table-made ts b ls p q i = record { treaties = ts; numbered = record { places = p i }; lacking = q i }

@@ -5,4 +5,4 @@ pub mod Earlier
 pub mod Added
 pub mod CedePass
 pub mod Lacks
-pub mod TableFacts
+pub mod RegisterFacts

@@ -26,7 +26,7 @@ use Rattle.programme.proofs.Lawful.{treaty-passed}
 use Rattle.programme.proofs.Validity.{places-tell, treaties-tell}
 use Rattle.events.specs.Rules.{inTable}
 use Rattle.year.proofs.Treaties.{passed-rising}
-use Rattle.losses.specs.Table.{eachNumber, withNumber, numbered, lackingNumbers}
+use Rattle.losses.specs.Register.{eachNumber, withNumber, numbered, lackingNumbers}
 
 module _ {A : Type 0} (f : ℕ → A) (d : A) where
   -- what stands in the place of a number

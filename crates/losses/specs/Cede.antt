@@ -5,16 +5,16 @@ use mathlib.Core.Path.{_≡_}
 use mathlib.Core.List.{List, [], _∷_, _++_}
 use Prim.Native.Nat.{ℕ, _+_, _^_, _≤_}
 use lib.ListN.{length, getD, set}
-use lib.Seq.{sets}
 use Rattle.lists.specs.Sums.{total}
 use Rattle.lists.specs.Each.{Each}
 use Rattle.treaty.specs.declared.Treaty.{Treaty}
 use Rattle.treaty.specs.declared.Loss.{Loss}
 use Rattle.treaty.specs.Treaty.{lossOf}
-use Rattle.treaty.specs.Losses.{grossOf, cededIn, cededOfEach, leftOfEach}
+use Rattle.treaty.specs.Losses.{grossOf, cededIn, cededOfEach}
 use Rattle.treaty.specs.Ranges.{TermsInRange, LossInRange}
-use Rattle.losses.specs.declared.table.ByNumber.{ByNumber}
+use Rattle.losses.specs.declared.register.ByNumber.{ByNumber}
 use Rattle.losses.specs.declared.cede.Ceded.{Ceded}
+use Rattle.losses.specs.Register.{numbered}
 
 -- numbers as losses, three a loss: T, E, g
 abbrev pub lossesFrom : List ℕ → List Loss
@@ -29,20 +29,20 @@ cededAdded ts earlier cs [] = cs
 cededAdded ts earlier cs (x ∷ xs) =
     cededAdded ts (earlier ++ (x ∷ [])) (set cs (x .treaty) (getD cs (x .treaty) 0 + cededIn ts earlier x)) xs
 
--- An event's losses xs went through the treaties ts. What is left of each was stored in the first places of `leaves`,
--- which is `leaves′` then; what each treaty cedes was added to the amount in its place of `cs`, which is `cs′` then.
-pub record CedesEach (ts : List Treaty) (xs : List Loss) (leaves leaves′ cs cs′ : List ℕ) (r : Ceded) : Type 0 where
-  pub gross : r .gross ≡ grossOf xs
-  pub ceded : r .ceded ≡ total (cededOfEach ts [] xs)
-  pub left : leaves′ ≡ sets leaves 0 (leftOfEach ts [] xs)
-  pub by-treaty : cs′ ≡ cededAdded ts [] cs xs
+-- An event's losses xs went through the treaties ts: c is what they come to and what is ceded. What each treaty cedes
+-- was added to the amount in its place of cs, which are cs′ then.
+pub record AfterTreaties (ts : List Treaty) (xs : List Loss) (cs cs′ : List ℕ) (c : Ceded) : Type 0 where
+  pub gross : c .gross ≡ grossOf xs
+  pub ceded : c .ceded ≡ total (cededOfEach ts [] xs)
+  pub cessions : cs′ ≡ cededAdded ts [] cs xs
 
--- What it takes: terms and losses in range, at most 64 losses, room for what is left of each, and a place for each
+-- What it takes: the places of some treaties, terms and losses in range, at most 64 losses, and a place for each
 -- number whose amount leaves room for what is ceded.
-pub record CanCede (table : ByNumber) (ns leaves cs : List ℕ) : Type 0 where
+pub record CanCede (table : ByNumber) (ns cs : List ℕ) : Type 0 where
+  pub treaties : List Treaty
+  pub by-number : table .places ≡ numbered treaties
   pub terms : Each TermsInRange (table .places)
   pub losses : Each LossInRange (lossesFrom ns)
   pub few : length (lossesFrom ns) ≤ 64
-  pub room : length (lossesFrom ns) ≤ length leaves
   pub places : length cs ≡ 9
   pub amounts : Each (λ (n : ℕ). n ≤ 2 ^ 62) cs

@@ -1,13 +1,15 @@
 // The losses of an event in turn through their treaties.
-ghost use mathlib.Core.List.{List};
+ghost use mathlib.Core.List.{List, []};
 ghost use mathlib.Core.Path.{_≡_};
-ghost use Prim.Native.Nat.{_<_};
+ghost use Prim.Native.Nat.{_≤_, _<_};
 ghost use lib.ListN.{length, getD};
+ghost use lib.Seq.{sets};
 ghost use Rattle.treaty.specs.declared.Treaty.{Treaty};
 ghost use Rattle.treaty.specs.Treaty.{lossOf};
-ghost use Rattle.losses.specs.Table.{numbered};
-ghost use Rattle.losses.specs.Cede.{lossesFrom, CanCede, CedesEach};
-use crate::table::ByNumber;
+ghost use Rattle.treaty.specs.Losses.{leftOfEach};
+ghost use Rattle.losses.specs.Register.{numbered};
+ghost use Rattle.losses.specs.Cede.{lossesFrom, CanCede, AfterTreaties};
+use crate::register::ByNumber;
 use treaty::Loss;
 
 // What an event's losses come to under the treaties: their amounts and what is ceded of them, added.
@@ -32,10 +34,12 @@ fn loss_at(losses: &[u64], i: usize) -> Loss
 // The losses of an event in turn, three numbers each (T, E, g), through their treaties. What is left of each goes to
 // `left`; at place T `cessions` gains what treaty T cedes.
 pub fn cede_each(table: ByNumber, losses: &[u64], left: &mut [u64], cessions: &mut [u64]) -> Ceded
-    requires { ⌜ CanCede table (now losses) (now left) (now cessions) ⌝ }
+    requires { ⌜ CanCede table (now losses) (now cessions)
+        × (length (lossesFrom (now losses)) ≤ length (now left)) ⌝ }
     ensures { λ r. ⌜ ((ts : List Treaty) → table .places ≡ numbered ts
-        → CedesEach ts (lossesFrom (now (losses .entry))) (now (left .entry)) (now (left .exit))
-        (now (cessions .entry)) (now (cessions .exit)) r) ⌝ }
+        → AfterTreaties ts (lossesFrom (now (losses .entry))) (now (cessions .entry)) (now (cessions .exit)) r
+        × (now (left .exit)
+        ≡ sets (now (left .entry)) 0 (leftOfEach ts [] (lossesFrom (now (losses .entry)))))) ⌝ }
 {
     let count = losses.len() / 3;
     let mut earlier = [0u64; 9];

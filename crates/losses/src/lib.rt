@@ -1,3 +1,3 @@
 // The losses of an event through their treaties, and the treaties by number.
 pub mod cede;
-pub mod table;
+pub mod register;

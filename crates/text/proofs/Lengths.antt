@@ -1,4 +1,4 @@
--- How long a printed number and a printed template are at most.
+-- How long a printed number and a printed template are at least and at most.
 -- Assumes nothing.
 use mathlib.Core.Path.{_≡_}
 use mathlib.Core.List.{List, [], _∷_}
@@ -13,8 +13,26 @@ use Rattle.text.specs.Buffer.{Put}
 use Rattle.text.specs.Number.{printed, digits}
 use Rattle.text.specs.Template.{capital, holes, filled}
 use Rattle.text.proofs.Digits.{Readable}
-use Rattle.text.proofs.Printing.{printed-one, printed-more, printed-append}
+use Rattle.text.proofs.Printing.{by-digits, printed-one, printed-more, printed-append}
 use Rattle.text.proofs.Templates.{holes-number, holes-byte}
+
+-- a number is printed with a digit or more
+printed-long : (n : ℕ) (s : List ℕ) → suc (length s) ≤ length (printed n s)
+printed-long =
+    by-digits (λ n. (s : List ℕ) → suc (length s) ≤ length (printed n s))
+    (λ n l s. rw (printed-one n s l) (omega arith))
+    (λ n l ih s. rw (printed-more n s l) (omega (arith, ih ((48 + n % 10) ∷ s))))
+
+-- a template takes a byte or more for each of its own
+pub filled-long : (t ns s : List ℕ) → length t + length s ≤ length (filled t ns s)
+unfolding filled
+filled-long [] ns s = omega arith
+filled-long (b ∷ t) ns s =
+    by-test (capital b)
+    (λ e.
+    let digits = printed-long (getD ns 0 0) (filled t (drop 1 ns) s) in
+    simp (filled, ← e) (omega (arith, filled-long t (drop 1 ns) s, digits)))
+    (λ e. simp (filled, ← e) (omega (arith, filled-long t ns s)))
 
 printed-length : (n : ℕ) (s : List ℕ) → length (printed n s) ≡ length (digits n) + length s
 printed-length n s = rw (printed-append n [] s) (length-append (digits n) s)

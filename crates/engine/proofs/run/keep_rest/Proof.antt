@@ -1,7 +1,7 @@
 -- `engine::run::keep_rest` meets its contract.
 -- Assumes nothing.
 use borrow.Author.Needs.{needs}
-use Rattle.engine.proofs.Writing as law
+use Rattle.engine.proofs.Stating as law
 use Rattle.engine.proofs.run.keep_rest.Statement.{statement}
 use Rattle.engine.proofs.run.keep_rest.Tie as tie
 

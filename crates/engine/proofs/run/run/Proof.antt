@@ -54,7 +54,7 @@ short-requires c κs =
     let valid = tested .before in
     let held = valid .before in
     let start = held .before .before .before in
-    law.runs _ _ _ (start .args .buffer .now) _ (held .holds .ensures) (valid .if1 .taken) _
+    law.can-run _ _ _ (start .args .buffer .now) _ (held .holds .ensures) (valid .if1 .taken) _
     (tested .passes .ensures) (standing .if2 .taken) _ (c .before .if4 .taken)
 
 same-length : tie.Need-same-length
@@ -69,7 +69,7 @@ returns-4 c =
     let valid = tested .before in
     let held = valid .before in
     let start = held .before .before .before in
-    law.gone _ _ _ (start .args .buffer .now) _ (held .holds .ensures) (valid .if1 .taken) _
+    law.by-lines _ _ _ (start .args .buffer .now) _ (held .holds .ensures) (valid .if1 .taken) _
     (tested .passes .ensures) (standing .if2 .taken) (fits .if3 .left) _ _ (ran .short .ensures)
 
 medium-requires : tie.Need-medium-requires
@@ -79,7 +79,7 @@ medium-requires c κs =
     let valid = tested .before in
     let held = valid .before in
     let start = held .before .before .before in
-    law.runs _ _ _ (start .args .buffer .now) _ (held .holds .ensures) (valid .if1 .taken) _
+    law.can-run _ _ _ (start .args .buffer .now) _ (held .holds .ensures) (valid .if1 .taken) _
     (tested .passes .ensures) (standing .if2 .taken) _ (c .before .if5 .taken)
 
 same-length-2 : tie.Need-same-length-2
@@ -94,7 +94,7 @@ returns-5 c =
     let valid = tested .before in
     let held = valid .before in
     let start = held .before .before .before in
-    law.gone _ _ _ (start .args .buffer .now) _ (held .holds .ensures) (valid .if1 .taken) _
+    law.by-lines _ _ _ (start .args .buffer .now) _ (held .holds .ensures) (valid .if1 .taken) _
     (tested .passes .ensures) (standing .if2 .taken) (fits .if3 .left) _ _ (ran .medium .ensures)
 
 long-requires : tie.Need-long-requires
@@ -105,7 +105,7 @@ long-requires c κs =
     let valid = tested .before in
     let held = valid .before in
     let start = held .before .before .before in
-    law.runs _ _ _ (start .args .buffer .now) _ (held .holds .ensures) (valid .if1 .taken) _
+    law.can-run _ _ _ (start .args .buffer .now) _ (held .holds .ensures) (valid .if1 .taken) _
     (tested .passes .ensures) (standing .if2 .taken) _ (fits .if3 .left)
 
 same-length-3 : tie.Need-same-length-3
@@ -120,7 +120,7 @@ returns-6 c =
     let valid = tested .before in
     let held = valid .before in
     let start = held .before .before .before in
-    law.gone _ _ _ (start .args .buffer .now) _ (held .holds .ensures) (valid .if1 .taken) _
+    law.by-lines _ _ _ (start .args .buffer .now) _ (held .holds .ensures) (valid .if1 .taken) _
     (tested .passes .ensures) (standing .if2 .taken) (fits .if3 .left) _ _ (ran .long .ensures)
 
 pub run-spec : {M : Type 1} → statement M

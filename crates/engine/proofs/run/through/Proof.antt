@@ -3,14 +3,14 @@
 use mathlib.Core.Path.{refl}
 use borrow.Author.Needs.{needs}
 use Rattle.programme.proofs.Validity.{valid-tells}
-use Rattle.engine.proofs.GoneThrough as law
+use Rattle.engine.proofs.RunLines as law
 use Rattle.engine.proofs.run.through.Statement.{statement}
 use Rattle.engine.proofs.run.through.Tie as tie
 
-table-of-requires : tie.Need-table-of-requires
-table-of-requires c κs =
+register-of-requires : tie.Need-register-of-requires
+register-of-requires c κs =
     let start = c .before .before .before .before in
-    valid-tells _ (start .pre .programme) .0
+    valid-tells _ (start .pre .0 .programme) .0
 
 first-requires : tie.Need-first-requires
 first-requires c κs = search needs
@@ -21,9 +21,10 @@ slice-aggregate-pass c = search needs
 pass-requires : tie.Need-pass-requires
 pass-requires c κs =
     let first = c .before .before in
-    let table = first .before in
-    let start = table .before .before .before .before .before in
-    law.can-pass _ _ _ _ (start .pre) _ (first .first .ensures) _ (table .table-of .ensures)
+    let register = first .before in
+    let start = register .before .before .before .before .before in
+    law.can-pass _ _ _ _ (start .pre .0) (start .pre .1) _
+    (first .first .ensures) _ (register .register-of .ensures)
 
 refused-requires : tie.Need-refused-requires
 refused-requires c κs = search needs
@@ -35,9 +36,10 @@ returns : tie.Need-returns
 returns c =
     let passed = c .before .before .before .before .before in
     let first = passed .before .before .before in
-    let table = first .before in
-    let start = table .before .before .before .before .before in
-    law.line-refused _ _ _ _ (start .pre) _ (first .first .ensures) _ (table .table-of .ensures) _ _ _
+    let register = first .before in
+    let start = register .before .before .before .before .before in
+    law.line-refused _ _ _ _ (start .pre .0) (start .pre .1) _
+    (first .first .ensures) _ (register .register-of .ensures) _ _ _
     (passed .pass .ensures) _ _ _ _ _ refl refl (c .before .if1 .taken) (c .refused .ensures)
 
 slice-aggregate-keep-rest : tie.Need-slice-aggregate-keep-rest
@@ -48,9 +50,10 @@ keep-rest-requires c κs =
     let fine = c .before .before .before .before in
     let passed = fine .before .before .before .before in
     let first = passed .before .before .before in
-    let table = first .before in
-    let start = table .before .before .before .before .before in
-    law.can-keep _ _ _ _ (start .pre) _ (first .first .ensures) _ (table .table-of .ensures) _ _ _
+    let register = first .before in
+    let start = register .before .before .before .before .before in
+    law.can-keep _ _ _ _ (start .pre .0) (start .pre .1) _
+    (first .first .ensures) _ (register .register-of .ensures) _ _ _
     (passed .pass .ensures) (fine .if1 .left)
 
 standing-requires : tie.Need-standing-requires
@@ -58,9 +61,10 @@ standing-requires c κs =
     let fine = c .before .before .before .before .before .before .before in
     let passed = fine .before .before .before .before in
     let first = passed .before .before .before in
-    let table = first .before in
-    let start = table .before .before .before .before .before in
-    law.records-sound _ _ _ _ (start .pre) _ (first .first .ensures) _ (table .table-of .ensures) _ _ _
+    let register = first .before in
+    let start = register .before .before .before .before .before in
+    law.records-sound _ _ _ _ (start .pre .0) (start .pre .1) _
+    (first .first .ensures) _ (register .register-of .ensures) _ _ _
     (passed .pass .ensures) (fine .if1 .left)
 
 slice-reshare-prefix-write : tie.Need-slice-reshare-prefix-write
@@ -69,9 +73,10 @@ slice-reshare-prefix-write c =
     let fine = kept .before .before .before .before .before in
     let passed = fine .before .before .before .before in
     let first = passed .before .before .before in
-    let table = first .before in
-    let start = table .before .before .before .before .before in
-    law.end-inside _ _ _ _ (start .pre) _ (first .first .ensures) _ (table .table-of .ensures) _ _ _
+    let register = first .before in
+    let start = register .before .before .before .before .before in
+    law.end-inside _ _ _ _ (start .pre .0) (start .pre .1) _
+    (first .first .ensures) _ (register .register-of .ensures) _ _ _
     (passed .pass .ensures) (fine .if1 .left) _ _ (kept .keep-rest .ensures .0) (kept .keep-rest .ensures .1)
 
 slice-aggregate-write : tie.Need-slice-aggregate-write
@@ -80,9 +85,10 @@ slice-aggregate-write c =
     let fine = kept .before .before .before .before .before in
     let passed = fine .before .before .before .before in
     let first = passed .before .before .before in
-    let table = first .before in
-    let start = table .before .before .before .before .before in
-    law.end-kept _ _ _ _ (start .pre) _ (first .first .ensures) _ (table .table-of .ensures) _ _ _
+    let register = first .before in
+    let start = register .before .before .before .before .before in
+    law.end-kept _ _ _ _ (start .pre .0) (start .pre .1) _
+    (first .first .ensures) _ (register .register-of .ensures) _ _ _
     (passed .pass .ensures) (fine .if1 .left) _ _ (kept .keep-rest .ensures .0) (kept .keep-rest .ensures .1)
 
 write-requires : tie.Need-write-requires
@@ -91,9 +97,10 @@ write-requires c κs =
     let fine = kept .before .before .before .before .before in
     let passed = fine .before .before .before .before in
     let first = passed .before .before .before in
-    let table = first .before in
-    let start = table .before .before .before .before .before in
-    law.fits _ _ _ _ (start .pre) _ (first .first .ensures) _ (table .table-of .ensures) _ _ _
+    let register = first .before in
+    let start = register .before .before .before .before .before in
+    law.fits _ _ _ _ (start .pre .0) (start .pre .1) _
+    (first .first .ensures) _ (register .register-of .ensures) _ _ _
     (passed .pass .ensures) (fine .if1 .left) _ _ (kept .keep-rest .ensures .0) (kept .keep-rest .ensures .1)
 
 same-length-2 : tie.Need-same-length-2
@@ -110,9 +117,10 @@ returns-2 c =
     let fine = kept .before .before .before .before .before in
     let passed = fine .before .before .before .before in
     let first = passed .before .before .before in
-    let table = first .before in
-    let start = table .before .before .before .before .before in
-    law.states _ _ _ _ (start .pre) _ (first .first .ensures) _ (table .table-of .ensures) _ _ _
+    let register = first .before in
+    let start = register .before .before .before .before .before in
+    law.states _ _ _ _ (start .pre .0) (start .pre .1) _
+    (first .first .ensures) _ (register .register-of .ensures) _ _ _
     (passed .pass .ensures) (fine .if1 .left) _ _ (kept .keep-rest .ensures .0) (kept .keep-rest .ensures .1) _
     (after .standing .ensures) (start .args .buffer .now) _ _ (written .write .ensures)
 
@@ -120,7 +128,7 @@ pub through-spec : {M : Type 1} → statement M
 through-spec =
     tie.close
     (tie.spec
-    table-of-requires
+    register-of-requires
     first-requires
     slice-aggregate-pass
     pass-requires

@@ -23,16 +23,19 @@ mul-if1 c = search needs
 put-statement-requires : tie.Need-put-statement-requires
 put-statement-requires c κs = search needs
 
+written-requires : tie.Need-written-requires
+written-requires c κs = search needs
+
 same-length : tie.Need-same-length
 same-length c = search needs
 
 returns : tie.Need-returns
 returns c =
-    let put = c .before .before in
+    let put = c .before .before .before in
     let few = put .before .before in
     let start = few .before .before .before .before .before .before in
     law.at-once _ _ _ _ (start .args .buffer .now) (put .put-statement .ensures .0) (put .put-statement .ensures .1)
-    (few .if1 .taken)
+    (few .if1 .taken) _ (c .written .ensures)
 
 write-measured-requires : tie.Need-write-measured-requires
 write-measured-requires c κs = search needs
@@ -53,6 +56,7 @@ write-spec =
     add-lines-4
     mul-if1
     put-statement-requires
+    written-requires
     same-length
     returns
     write-measured-requires

@@ -29,16 +29,19 @@ returns c =
 put-statement-requires-2 : tie.Need-put-statement-requires-2
 put-statement-requires-2 c κs = search needs
 
+written-requires : tie.Need-written-requires
+written-requires c κs = search needs
+
 same-length-2 : tie.Need-same-length-2
 same-length-2 c = search needs
 
 returns-2 : tie.Need-returns-2
 returns-2 c =
-    let put = c .before .before in
+    let put = c .before .before .before in
     let fits = put .before .before in
     let measured = fits .before .before .before in
     law.written _ _ _ _ _ (measured .put-statement .ensures .0) (measured .put-statement .kept .0) (fits .if1 .left)
-    (put .put-statement2 .ensures .0)
+    (put .put-statement2 .ensures .0) _ (c .written .ensures)
 
 pub write-measured-spec : {M : Type 1} → statement M
 write-measured-spec =
@@ -51,5 +54,6 @@ write-measured-spec =
     same-length
     returns
     put-statement-requires-2
+    written-requires
     same-length-2
     returns-2)

@@ -11,22 +11,22 @@ use Rattle.lines.proofs.pass.pass.Statement.{statement}
 use Rattle.lines.proofs.pass.pass.Tie as tie
 
 abbrev Inv-losses : tie.InvT-losses
-Inv-losses text table start kept cessions lacking losses₀ progress number at end line day first place₀ count₀
+Inv-losses text register start kept cessions lacking losses₀ progress number at end line day first place₀ count₀
     outside₀ lacks₀ losses place count outside lacks =
     loss.Listed lacking line day losses₀ losses place count outside lacks
 
 abbrev μ-losses : tie.MeasureT-losses
-μ-losses text table start kept cessions lacking losses₀ progress number at end line day first place₀ count₀
+μ-losses text register start kept cessions lacking losses₀ progress number at end line day first place₀ count₀
     outside₀ lacks₀ losses place count outside lacks =
     length line - place
 
 abbrev Inv-lines : tie.InvT-lines
-Inv-lines text table start kept₀ cessions₀ lacking losses₀ progress₀ number₀ at₀ kept cessions losses progress number
-    at =
-    law.Going table start text kept₀ cessions₀ lacking losses progress kept cessions number at
+Inv-lines text register start kept₀ cessions₀ lacking losses₀ progress₀ number₀ at₀ kept cessions losses progress
+    number at =
+    law.Going register start text kept₀ cessions₀ lacking losses progress kept cessions number at
 
 abbrev μ-lines : tie.MeasureT-lines
-μ-lines text table start kept₀ cessions₀ lacking losses₀ progress₀ number₀ at₀ kept cessions losses progress number
+μ-lines text register start kept₀ cessions₀ lacking losses₀ progress₀ number₀ at₀ kept cessions losses progress number
     at =
     length text - at
 

@@ -25,7 +25,7 @@ loop-holds : tie.Need-loop-holds Inv-loop μ-loop
 loop-holds c =
     let s = c .before .before .before in
     let nine = unmapped _ (s .args .t1 .places) (s .good .0 .1 .1 .0 .1 .0 .1) in
-    law.none-ceded (s .args .t1) _ _ _ nine (s .pre)
+    law.none-ceded (s .args .t1) _ _ _ nine (s .pre .0) (s .pre .1)
 
 loss-at-requires : tie.Need-loss-at-requires Inv-loop μ-loop
 loss-at-requires c κs = search needs

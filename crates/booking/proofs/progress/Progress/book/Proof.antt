@@ -15,19 +15,19 @@ array-share-prefix-left : tie.Need-array-share-prefix-left
 array-share-prefix-left c =
     let ceded = c .before .before .before in
     let start = ceded .before .before .before .before .before .before in
-    law.left-room (start .pre) (search needs) (ceded .cede-each .ensures)
+    law.left-room (start .pre) (ceded .cede-each .ensures)
 
 slice-aggregate-enter : tie.Need-slice-aggregate-enter
 slice-aggregate-enter c =
     let ceded = c .before .before .before .before in
     let start = ceded .before .before .before .before .before .before in
-    law.left-length (start .pre) (search needs) (ceded .cede-each .ensures)
+    law.left-length (start .pre) (ceded .cede-each .ensures)
 
 enter-requires : tie.Need-enter-requires
 enter-requires c κs =
     let ceded = c .before .before .before .before .before in
     let start = ceded .before .before .before .before .before .before in
-    law.can-enter (start .pre) (search needs) (ceded .cede-each .ensures)
+    law.can-enter (start .pre) (ceded .cede-each .ensures)
 
 same-length : tie.Need-same-length
 same-length c = search needs
@@ -39,7 +39,7 @@ returns : tie.Need-returns
 returns c =
     let ceded = c .before .before .before .before .before .before .before .before in
     let start = ceded .before .before .before .before .before .before in
-    law.booked (start .pre) (search needs) (ceded .cede-each .ensures) (c .before .before .enter .ensures)
+    law.booked (start .pre) (ceded .cede-each .ensures) (c .before .before .enter .ensures)
 
 pub book-spec : {M : Type 1} → statement M
 book-spec =

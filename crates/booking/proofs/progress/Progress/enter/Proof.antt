@@ -38,12 +38,12 @@ cents-requires-4 c κs = search needs
 add-premium : tie.Need-add-premium
 add-premium c = search law.premium-fits
 
-both-requires : tie.Need-both-requires
-both-requires c κs =
+total-with-requires : tie.Need-total-with-requires
+total-with-requires c κs =
     let by-cat = c .before .before .before in
     let by-risk = by-cat .before .before .before .before in
     let start = by-risk .before .before .before in
-    law.both-room _ _ _ (start .pre) _ (by-risk .bear .ensures) _ (search needs) _ (by-cat .bear2 .ensures) _
+    law.amounts-room _ _ _ (start .pre) _ (by-risk .bear .ensures) _ (search needs) _ (by-cat .bear2 .ensures) _
     (search needs) _ _ (c .before .cents3 .ensures) (c .cents4 .ensures)
 
 slice-aggregate-keep : tie.Need-slice-aggregate-keep
@@ -73,7 +73,7 @@ enter-spec =
     cents-requires-3
     cents-requires-4
     add-premium
-    both-requires
+    total-with-requires
     slice-aggregate-keep
     keep-requires
     same-length

@@ -31,8 +31,8 @@ use Rattle.year.specs.Standing.{standingOf, yearOf, layersWith}
 use Rattle.year.specs.Run.{refused, fitted, runThrough, bufferAfter}
 use Rattle.year.proofs.Treaties.{passed-numbers, passed-rising}
 use Rattle.year.proofs.Shown.{risk-length, cat-length}
-use Rattle.losses.specs.declared.table.Table.{Table}
-use Rattle.losses.specs.Table.{tableOf}
+use Rattle.losses.specs.declared.register.Register.{Register}
+use Rattle.losses.specs.Register.{registerOf}
 use Rattle.statement.specs.declared.print.Counts.{Counts}
 use Rattle.statement.specs.Numbers.{numbersOf}
 use Rattle.statement.specs.Shows.{Fits, Shows}
@@ -43,7 +43,7 @@ use Rattle.engine.specs.declared.run.Ran.{Ran}
 use Rattle.booking.specs.Records.{yearIn, SoundRecords}
 use Rattle.booking.specs.Progress.{FirstOf, Stands}
 use Rattle.lines.specs.Pass.{CanPass, passIs}
-use Rattle.engine.specs.Run.{ranOf, goneThrough, restNumbers, CanKeep, CanRun}
+use Rattle.engine.specs.Run.{ranOf, runLines, restNumbers, CanKeep, CanRun, PlacesFor}
 use Rattle.engine.proofs.Stating.{through-length, all-kept}
 
 with-length : (ts : List Terms) (ms : List ℕ) → length (layersWith ts ms) ≡ length ts
@@ -63,7 +63,8 @@ record Accepted (p : Programme) (s : Standing) (text d₀ : List ℕ) (start : P
   stands : Stands (treatiesIn (p .treaties)) start d₀ (replicate 9 0) es r d cs
   few : 10 * r .kept ≤ 7 * length text
 
-module _ (p : Programme) (s : Standing) (text d₀ : List ℕ) (can : CanRun p s text d₀) where
+module _ (p : Programme) (s : Standing) (text d₀ : List ℕ) (can : CanRun 65536 p s text)
+    (places : PlacesFor text d₀) where
   abbrev ts : List Treaty
   ts = treatiesIn (p .treaties)
 
@@ -76,15 +77,16 @@ module _ (p : Programme) (s : Standing) (text d₀ : List ℕ) (can : CanRun p s
   numbers : Each (λ (t : Treaty). t .number ≤ 8) ts
   numbers = passed-numbers 0 ts passes
 
-  module _ (start : Progress) (f : FirstOf p s start) (table : Table) (m : table ≡ tableOf (p .treaties)) where
-    same-treaties : table .treaties ≡ p .treaties
-    same-treaties = ap (λ (t : Table). t .treaties) m
+  module _ (start : Progress) (f : FirstOf p s start) (register : Register)
+      (m : register ≡ registerOf (p .treaties)) where
+    same-treaties : register .treaties ≡ p .treaties
+    same-treaties = ap (λ (t : Register). t .treaties) m
 
-    pub can-pass : CanPass text table start (replicate 9 0)
+    pub can-pass : CanPass text register start (replicate 9 0)
     can-pass = record {
       short = can .short;
       treaties = rw same-treaties (valid-tells p (can .programme) .0);
-      by-number = m ∙ ap tableOf (sym same-treaties);
+      by-number = m ∙ ap registerOf (sym same-treaties);
       records = f .sound;
       total = f .total;
       kept = f .kept;
@@ -92,8 +94,8 @@ module _ (p : Programme) (s : Standing) (text d₀ : List ℕ) (can : CanRun p s
     }
 
     module _ (d cs : List ℕ) (r : Passed)
-        (q : passIs (treatiesIn (table .treaties)) start text d₀ d (replicate 9 0) cs r
-        (readFrom (treatiesIn (table .treaties)) 1 (start .day) (formsOf text))) where
+        (q : passIs (treatiesIn (register .treaties)) start text d₀ d (replicate 9 0) cs r
+        (readFrom (treatiesIn (register .treaties)) 1 (start .day) (formsOf text))) where
       abbrev answer : EventsRead
       answer = readFrom ts 1 (s .day) (formsOf text)
 
@@ -105,12 +107,15 @@ module _ (p : Programme) (s : Standing) (text d₀ : List ℕ) (can : CanRun p s
       -- a line was at fault
       pub line-refused : (n w room : ℕ) (d′ : List ℕ) (x : Ran) → n ≡ r .refusal → w ≡ r .line → (n ≡ 0 → ⊥)
           → x ≡ ranOf (refused n w) s
-          → (x ≡ ranOf (goneThrough p s text room) s) × (d′ ≡ bufferAfter (goneThrough p s text room) d′)
+          → (x ≡ ranOf (runLines p s text room) s) × (d′ ≡ bufferAfter (runLines p s text room) d′)
       line-refused n w room d′ x a b z e = by-answer answer refl passed
         where
           by-answer : (o : EventsRead) → answer ≡ o → passIs ts start text d₀ d (replicate 9 0) cs r o
-              → (x ≡ ranOf (goneThrough p s text room) s) × (d′ ≡ bufferAfter (goneThrough p s text room) d′)
-          by-answer (turnedDown k l) g told = rw (g, ← told .0, ← told .1, ← a, ← b) (e, refl)
+              → (x ≡ ranOf (runLines p s text room) s) × (d′ ≡ bufferAfter (runLines p s text room) d′)
+          by-answer (turnedDown k l) g told =
+              let refusal = ap (λ (y : Passed). y .refusal) (told .0) in
+              let line = ap (λ (y : Passed). y .line) (told .0) in
+              rw (g, ← refusal, ← line, ← a, ← b) (e, refl)
           by-answer (events es) g told = absurd (z (a ∙ told .0))
 
       -- no line was
@@ -119,7 +124,8 @@ module _ (p : Programme) (s : Standing) (text d₀ : List ℕ) (can : CanRun p s
         where
           by-answer : (o : EventsRead) → answer ≡ o → passIs ts start text d₀ d (replicate 9 0) cs r o
               → Accepted p s text d₀ start (r .progress) d cs
-          by-answer (turnedDown k l) g told = absurd (told .2 (sym (told .0) ∙ z))
+          by-answer (turnedDown k l) g told =
+              absurd (told .1 (sym (ap (λ (y : Passed). y .refusal) (told .0)) ∙ z))
           by-answer (events es) g told = record { es = es; read = g; stands = told .1; few = told .2 }
 
       module _ (z : r .refusal ≡ 0) where
@@ -151,7 +157,7 @@ module _ (p : Programme) (s : Standing) (text d₀ : List ℕ) (can : CanRun p s
           kept = all-kept ts rising numbers start d₀ (a .es) (r .progress) d cs (a .stands) k
 
           fits-in : length (numbersOf (linesShown shown)) ≤ length d₀
-          fits-in = omega (arith, kept .place, a .few, can .room)
+          fits-in = omega (arith, kept .place, a .few, places .room)
 
           same-length : length d′ ≡ length d₀
           same-length = rw (kept .bytes) (length-sets d₀ 0 (numbersOf (linesShown shown)))
@@ -231,7 +237,7 @@ module _ (p : Programme) (s : Standing) (text d₀ : List ℕ) (can : CanRun p s
                 let day = a .stands .day ∙ ap (λ (d : ℕ). lastDay d (a .es)) (f .day) in
                 e ∙ (λ i. standingOf (year i) (day i))
 
-            outcome : (room : ℕ) → goneThrough p s text room ≡ fitted room shown after
+            outcome : (room : ℕ) → runLines p s text room ≡ fitted room shown after
             outcome room =
                 ap (runThrough (contractsIn p) s room) (a .read)
                 ∙ (λ i. fitted room (statementOf ts (sym (f .year) i) (a .es)) (sym after-is i))
@@ -239,6 +245,6 @@ module _ (p : Programme) (s : Standing) (text d₀ : List ℕ) (can : CanRun p s
             pub states : (b b′ : List ℕ) (x : Ran)
                 → ((t : Statement) → Shows t (take end d′) counts
                 → (x ≡ ranOf (fitted (length b) t after) s) × (b′ ≡ bufferAfter (fitted (length b) t after) b))
-                → (x ≡ ranOf (goneThrough p s text (length b)) s)
-                × (b′ ≡ bufferAfter (goneThrough p s text (length b)) b)
+                → (x ≡ ranOf (runLines p s text (length b)) s)
+                × (b′ ≡ bufferAfter (runLines p s text (length b)) b)
             states b b′ x w = rw (outcome (length b)) (w shown shows)

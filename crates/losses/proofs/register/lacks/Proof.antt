@@ -1,9 +1,9 @@
--- `losses::table::lacks` meets its contract.
+-- `losses::register::lacks` meets its contract.
 -- Assumes nothing.
 use borrow.Author.Needs.{needs}
 use Rattle.losses.proofs.Lacks as law
-use Rattle.losses.proofs.table.lacks.Statement.{statement}
-use Rattle.losses.proofs.table.lacks.Tie as tie
+use Rattle.losses.proofs.register.lacks.Statement.{statement}
+use Rattle.losses.proofs.register.lacks.Tie as tie
 
 mul-result : tie.Need-mul-result
 mul-result c = search needs

@@ -4,7 +4,7 @@ ghost use mathlib.Core.Bool.{true};
 ghost use lib.ListN.{length};
 ghost use Rattle.programme.specs.Contracts.{treatiesIn};
 ghost use Rattle.programme.specs.Valid.{validTreaties};
-ghost use Rattle.losses.specs.Table.{numbered, lackingNumbers, tableOf, lackAt};
+ghost use Rattle.losses.specs.Register.{numbered, lackingNumbers, registerOf, lackAt};
 use programme::contract;
 use programme::contract::Treaties;
 use treaty::Treaty;
@@ -49,21 +49,21 @@ pub fn lacking(treaties: Treaties) -> [u64; 9]
     lacks
 }
 
-// A programme's treaties, with their places by number and the numbers that it lacks.
-pub struct Table {
+// A programme's treaties, with their places by number and the numbers that are lacking.
+pub struct Register {
     pub treaties: Treaties,
     pub numbered: ByNumber,
     pub lacking: [u64; 9],
 }
 
-// The treaties with these.
-pub fn table_of(treaties: Treaties) -> Table
+// The register of some treaties.
+pub fn register_of(treaties: Treaties) -> Register
     requires { ⌜ validTreaties treaties ≡ true ⌝ }
-    ensures { λ r. ⌜ r ≡ tableOf treaties ⌝ }
+    ensures { λ r. ⌜ r ≡ registerOf treaties ⌝ }
 {
     let numbered = by_number(treaties);
     let lacking = lacking(treaties);
-    Table {
+    Register {
         treaties,
         numbered,
         lacking,

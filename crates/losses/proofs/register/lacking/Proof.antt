@@ -1,28 +1,31 @@
--- `losses::table::by_number` meets its contract.
+-- `losses::register::lacking` meets its contract.
 -- Assumes nothing.
-use Prim.Native.Nat.{_-_}
+use mathlib.Core.Bool.{cond}
+use Prim.Native.Nat.{ℕ, _-_}
 use borrow.Author.Needs.{needs}
+use lib.Dec.{eqb}
 use Rattle.treaty.specs.declared.Treaty.{Treaty}
-use Rattle.programme.specs.Contracts.{noTreaty, treatiesIn}
-use Rattle.losses.specs.Table.{withNumber}
+use Rattle.programme.specs.Contracts.{treatiesIn}
+use Rattle.events.specs.Rules.{inTable}
 use Rattle.losses.proofs.Numbers as law
-use Rattle.losses.proofs.table.by_number.Statement.{statement}
-use Rattle.losses.proofs.table.by_number.Tie as tie
+use Rattle.losses.proofs.register.lacking.Statement.{statement}
+use Rattle.losses.proofs.register.lacking.Tie as tie
 
 abbrev Inv-loop : tie.InvT-loop
-Inv-loop treaties count places₀ i₀ places i =
-    law.Storing (λ (t : Treaty). t) (withNumber (treatiesIn treaties)) noTreaty count (treaties .places) places i
+Inv-loop treaties count lacks₀ i₀ lacks i =
+    law.Storing (λ (t : Treaty). 0) (λ (n : ℕ). cond (inTable (treatiesIn treaties) n) 0 1) 0 count (treaties .places)
+    lacks i
 
 abbrev μ-loop : tie.MeasureT-loop
-μ-loop treaties count places₀ i₀ places i = count - i
+μ-loop treaties count lacks₀ i₀ lacks i = count - i
 
-no-treaty-requires : tie.Need-no-treaty-requires Inv-loop μ-loop
-no-treaty-requires c κs = search needs
+array-write-lacks : tie.Need-array-write-lacks Inv-loop μ-loop
+array-write-lacks c = search needs
 
 loop-holds : tie.Need-loop-holds Inv-loop μ-loop
 loop-holds c =
-    rw (c .no-treaty .ensures)
-    (law.none-stored (λ (t : Treaty). t) withNumber (λ n. noTreaty) law.treaties-stored noTreaty _ (c .before .pre))
+    law.none-stored (λ (t : Treaty). 0) (λ ts n. cond (inTable ts n) 0 1) (λ (n : ℕ). cond (eqb n 0) 0 1)
+    law.noughts-stored 0 _ (c .pre)
 
 mul-t : tie.Need-mul-t Inv-loop μ-loop
 mul-t c = search needs
@@ -30,13 +33,13 @@ mul-t c = search needs
 element-copy-out-t : tie.Need-element-copy-out-t Inv-loop μ-loop
 element-copy-out-t c = search needs
 
-mul-places : tie.Need-mul-places Inv-loop μ-loop
-mul-places c =
+mul-lacks : tie.Need-mul-lacks Inv-loop μ-loop
+mul-lacks c =
     let high = law.number-high (c .before .before .loop .inv) (c .before .loop-test .taken) in
     search needs
 
-array-set-from-places : tie.Need-array-set-from-places Inv-loop μ-loop
-array-set-from-places c =
+array-write-lacks-2 : tie.Need-array-write-lacks-2 Inv-loop μ-loop
+array-write-lacks-2 c =
     let high = law.number-high (c .before .before .loop .inv) (c .before .loop-test .taken) in
     search needs
 
@@ -52,18 +55,18 @@ loop-again c = law.one-stored (c .before .before .loop .inv) (c .before .loop-te
 returns : tie.Need-returns Inv-loop μ-loop
 returns c = search law.all-stored
 
-pub by-number-spec : {M : Type 1} → statement M
-by-number-spec =
+pub lacking-spec : {M : Type 1} → statement M
+lacking-spec =
     tie.close
     (tie.spec
     Inv-loop
     μ-loop
-    no-treaty-requires
+    array-write-lacks
     loop-holds
     mul-t
     element-copy-out-t
-    mul-places
-    array-set-from-places
+    mul-lacks
+    array-write-lacks-2
     add-i
     loop-less
     loop-again

@@ -9,7 +9,7 @@ use Rattle.treaty.specs.declared.Treaty.{Treaty}
 use Rattle.programme.specs.declared.contract.Treaties.{Treaties}
 use Rattle.programme.specs.Contracts.{noTreaty, treatiesIn}
 use Rattle.events.specs.Rules.{inTable}
-use Rattle.losses.specs.declared.table.Table.{Table}
+use Rattle.losses.specs.declared.register.Register.{Register}
 
 -- the numbers that a loss may have
 abbrev pub eachNumber : List ℕ
@@ -28,9 +28,9 @@ numbered ts = map (withNumber ts) eachNumber
 abbrev pub lackingNumbers : List Treaty → List ℕ
 lackingNumbers ts = map (λ (n : ℕ). cond (inTable ts n) 0 1) eachNumber
 
--- a programme's treaties, with their places by number and the numbers that it lacks
-abbrev pub tableOf : Treaties → Table
-tableOf ts = record {
+-- a programme's treaties, with their places by number and the numbers that are lacking
+abbrev pub registerOf : Treaties → Register
+registerOf ts = record {
   treaties = ts;
   numbered = record { places = numbered (treatiesIn ts) };
   lacking = lackingNumbers (treatiesIn ts);

@@ -1,9 +1,9 @@
--- `booking::progress::both` meets its contract.
+-- `booking::progress::total_with` meets its contract.
 -- Assumes nothing.
 use borrow.Author.Needs.{needs}
 use Rattle.booking.proofs.EventBooked as law
-use Rattle.booking.proofs.progress.both.Statement.{statement}
-use Rattle.booking.proofs.progress.both.Tie as tie
+use Rattle.booking.proofs.progress.total_with.Statement.{statement}
+use Rattle.booking.proofs.progress.total_with.Tie as tie
 
 add-t3 : tie.Need-add-t3
 add-t3 c = search needs
@@ -26,5 +26,5 @@ add-t8 c = search law.premiums-fit
 returns : tie.Need-returns
 returns c = law.added-both _ _
 
-pub both-spec : {M : Type 1} → statement M
-both-spec = tie.close (tie.spec add-t3 add-t4 add-t5 add-t6 add-t7 add-t8 returns)
+pub total-with-spec : {M : Type 1} → statement M
+total-with-spec = tie.close (tie.spec add-t3 add-t4 add-t5 add-t6 add-t7 add-t8 returns)
