@@ -2,9 +2,9 @@
 // answers every input, and each promise is that of the call below.
 ghost use mathlib.Core.Path.{_≡_};
 ghost use lib.ListN.{length};
-ghost use Rattle.table.specs.Read.{readOf};
-ghost use Rattle.table.specs.Write.{writeOf, answerOf};
-ghost use Rattle.table.specs.Write.{bufferAfter as tableAfter};
+ghost use Rattle.table_text.specs.Read.{readOf};
+ghost use Rattle.table_text.specs.Write.{writeOf, answerOf};
+ghost use Rattle.table_text.specs.Write.{bufferAfter as tableAfter};
 ghost use Rattle.year.specs.Standing.{openOf};
 ghost use Rattle.year.specs.Run.{runOf, bufferAfter};
 ghost use Rattle.engine.specs.Run.{ranOf};
@@ -12,7 +12,7 @@ use engine::run;
 use engine::run::Ran;
 use programme::Answer;
 use programme::contract::Programme;
-use table::Reading;
+use table_text::Reading;
 use year::Opening;
 use year::Standing;
 

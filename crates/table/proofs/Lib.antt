@@ -1,10 +1,3 @@
 pub mod LinePass
-pub mod LineKinds
-pub mod Lines
 pub mod Tables
 pub mod Writes
-pub mod TextRead
-pub mod TableBack
-pub mod RoundTrip
-pub mod SameTable
-pub mod Corners

@@ -27,11 +27,11 @@ use Rattle.programme.specs.LineByLine.{placeAfter, progressAfter, EightAtMost}
 use Rattle.programme.proofs.Bounds.{treaty-in-range}
 use Rattle.programme.proofs.Faults.{TreatyFaultless, treaty-faultless, layer-faultless}
 use Rattle.programme.proofs.Places.{place-next}
-use Rattle.table.specs.declared.Reading.{Reading}
-use Rattle.table.specs.declared.form.Form.{Form}
-use Rattle.table.specs.declared.form.Form.the-variants.{Line, NoForm}
-use Rattle.table.specs.Forms.{formOf, formsOf}
-use Rattle.table.specs.Read.{refusedAt, readAs, unlessFault, readFrom, readOf}
+use Rattle.table_text.specs.declared.Reading.{Reading}
+use Rattle.table_text.specs.declared.Form.{Form}
+use Rattle.table_text.specs.declared.Form.the-variants.{Line, NoForm}
+use Rattle.table_text.specs.Forms.{formOf, formsOf}
+use Rattle.table_text.specs.Read.{refusedAt, readAs, unlessFault, readFrom, readOf}
 use Rattle.table.specs.LineByLine.{readPlaces}
 
 -- some of one kind in their places, and what the rules look at of them

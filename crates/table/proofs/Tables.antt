@@ -17,9 +17,9 @@ use Rattle.text.proofs.Feeds.{joined-append}
 use Rattle.treaty.specs.declared.Treaty.{Treaty}
 use Rattle.programme.specs.declared.contract.Programme.{Programme}
 use Rattle.programme.specs.Contracts.{Contracts, treatiesIn, layersIn, contractsIn}
-use Rattle.table.specs.Forms.{quotaText, surplusText, riskText, catText, quotaNumbers}
-use Rattle.table.specs.Forms.{surplusNumbers, treatyLine, termsLine, tableOf}
-use Rattle.table.specs.Write.{textOf}
+use Rattle.table_text.specs.Forms.{quotaText, surplusText, riskText, catText, quotaNumbers}
+use Rattle.table_text.specs.Forms.{surplusNumbers, treatyLine, termsLine, tableOf}
+use Rattle.table_text.specs.Write.{textOf}
 
 -- a table text is the lines of the treaties, then those of the risk layers, then those of the cat layers
 pub table-parts : (c : Contracts) → tableOf c

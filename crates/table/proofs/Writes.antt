@@ -12,7 +12,7 @@ use Rattle.text.proofs.Puts.{put-whole, no-bytes}
 use Rattle.programme.specs.declared.Answer.{Answer}
 use Rattle.programme.specs.declared.contract.Programme.{Programme}
 use Rattle.programme.specs.Valid.{valid}
-use Rattle.table.specs.Write.{textOf, fitted, writeOf, answerOf, bufferAfter, refused, written}
+use Rattle.table_text.specs.Write.{textOf, fitted, writeOf, answerOf, bufferAfter, refused, written}
 
 -- for the answer t of the test whether some text reads to p, and the buffer d
 module _ (p : Programme) (t : Bool) (e : t ≡ valid p) where

@@ -1,4 +1,1 @@
-pub mod Forms
-pub mod Read
 pub mod LineByLine
-pub mod Write

@@ -4,8 +4,8 @@ use mathlib.Core.List.{List}
 use Rattle.treaty.specs.declared.Treaty.{Treaty}
 use Rattle.layer.specs.declared.terms.Terms.{Terms}
 use Rattle.programme.specs.declared.rule.Progress.{Progress}
-use Rattle.table.specs.declared.Reading.{Reading}
-use Rattle.table.specs.Read.{readAs}
+use Rattle.table_text.specs.declared.Reading.{Reading}
+use Rattle.table_text.specs.Read.{readAs}
 
 -- a success with these places, used as far as the counts tell
 abbrev pub readPlaces : List Treaty → List Terms → List Terms → Progress → Reading

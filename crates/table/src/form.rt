@@ -1,17 +1,12 @@
 // A line of a table as one of the four forms.
 ghost use mathlib.Core.Path.{_≡_};
-ghost use Rattle.table.specs.Forms.{kindOf, quotaForm, surplusForm, riskForm, catForm, termsFrom, formOf};
+ghost use Rattle.table_text.specs.Forms.{kindOf, quotaForm, surplusForm, riskForm, catForm, termsFrom, formOf};
 use layer::terms::Terms;
 use programme::contract::Contract;
+use table_text::Form;
 use text::template;
 use text::template::Numbers;
 use treaty::Treaty;
-
-// What a line is.
-pub enum Form {
-    Line(Contract),
-    NoForm,
-}
 
 // The kind of a line: the letter after the bracket tells the four words apart.
 fn kind(line: &[u8]) -> u64

@@ -2,11 +2,10 @@
 ghost use mathlib.Core.Path.{_≡_};
 ghost use lib.ListN.{length};
 ghost use Rattle.programme.specs.Contracts.{noContracts};
-ghost use Rattle.table.specs.Forms.{formsOf};
-ghost use Rattle.table.specs.Read.{refusedAt, readFrom, readOf};
+ghost use Rattle.table_text.specs.Forms.{formsOf};
+ghost use Rattle.table_text.specs.Read.{refusedAt, readFrom, readOf};
+ghost use Rattle.table_text.specs.Write.{writeOf, answerOf, bufferAfter};
 ghost use Rattle.table.specs.LineByLine.{readPlaces};
-ghost use Rattle.table.specs.Write.{writeOf, answerOf, bufferAfter};
-use crate::form::Form;
 use layer::terms::Terms;
 use programme::Answer;
 use programme::contract;
@@ -16,19 +15,13 @@ use programme::contract::Programme;
 use programme::contract::Treaties;
 use programme::rule::Progress;
 use programme::valid;
+use table_text::Form;
+use table_text::Reading;
 use text::line;
 use treaty::Treaty;
 
 pub mod form;
 pub mod print;
-
-// What reading answers: refusal 0 and the programme, or a refusal, its line and the programme without contracts.
-#[repr(C)]
-pub struct Reading {
-    pub refusal: u64,
-    pub line: u64,
-    pub programme: Programme,
-}
 
 // A refusal, with the programme without contracts.
 fn refused(refusal: u64, line: u64) -> Reading

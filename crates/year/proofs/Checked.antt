@@ -20,8 +20,8 @@ use Rattle.programme.specs.declared.contract.Programme.{Programme}
 use Rattle.programme.specs.Ranges.{outside, treatyOutside, termsOutside, treatyNotZero, termsNotZero}
 use Rattle.programme.specs.Rules.{treatyFault, layerFault}
 use Rattle.programme.specs.Valid.{validTreaties, validLayers, valid}
-use Rattle.table.specs.Forms.{kindOf, formOfKind, formOf}
-use Rattle.table.specs.Read.{readFrom, readOf}
+use Rattle.table_text.specs.Forms.{kindOf, formOfKind, formOf}
+use Rattle.table_text.specs.Read.{readFrom, readOf}
 use Rattle.events.specs.Event.{closes, lossesUpTo, eventOf}
 use Rattle.events.specs.Rules.{lossOutside, eventOutside, lacking, eventFault}
 use Rattle.events.specs.Read.{eventsOf, readFrom as eventsFrom}

@@ -1,4 +1,4 @@
--- `programme::read` meets its contract.
+-- `table::read` meets its contract.
 -- Assumes nothing.
 use borrow.Author.Needs.{needs}
 use Rattle.table.proofs.LinePass.{too-long, not-long}

@@ -1,4 +1,4 @@
--- `programme::read_lines` meets its contract.
+-- `table::read_lines` meets its contract.
 -- Assumes nothing.
 use Prim.Native.Nat.{_-_}
 use lib.ListN.{length}

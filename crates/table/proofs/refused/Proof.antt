@@ -1,4 +1,4 @@
--- `programme::refused` meets its contract.
+-- `table::refused` meets its contract.
 -- Assumes nothing.
 use borrow.Author.Needs.{needs}
 use Rattle.table.proofs.refused.Statement.{statement}

@@ -1,4 +1,4 @@
--- `programme::write` meets its contract.
+-- `table::write` meets its contract.
 -- Assumes nothing.
 use borrow.Author.Needs.{needs}
 use Rattle.table.proofs.Writes as law

@@ -1,7 +1,7 @@
--- `programme::form::cat` meets its contract.
+-- `table::form::cat` meets its contract.
 -- Assumes nothing.
 use borrow.Author.Needs.{needs}
-use Rattle.table.proofs.LineKinds as law
+use Rattle.table_text.proofs.LineKinds as law
 use Rattle.table.proofs.form.cat.Statement.{statement}
 use Rattle.table.proofs.form.cat.Tie as tie
 

@@ -1,7 +1,7 @@
--- `programme::form::kind` meets its contract.
+-- `table::form::kind` meets its contract.
 -- Assumes nothing.
 use borrow.Author.Needs.{needs}
-use Rattle.table.proofs.LineKinds as law
+use Rattle.table_text.proofs.LineKinds as law
 use Rattle.table.proofs.form.kind.Statement.{statement}
 use Rattle.table.proofs.form.kind.Tie as tie
 

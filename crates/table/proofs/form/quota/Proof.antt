@@ -1,7 +1,7 @@
--- `programme::form::quota` meets its contract.
+-- `table::form::quota` meets its contract.
 -- Assumes nothing.
 use borrow.Author.Needs.{needs}
-use Rattle.table.proofs.LineKinds as law
+use Rattle.table_text.proofs.LineKinds as law
 use Rattle.table.proofs.form.quota.Statement.{statement}
 use Rattle.table.proofs.form.quota.Tie as tie
 

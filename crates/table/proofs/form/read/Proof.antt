@@ -1,9 +1,9 @@
--- `programme::form::read` meets its contract.
+-- `table::form::read` meets its contract.
 -- Assumes nothing.
 use borrow.Author.Needs.{needs}
 use lib.Dec.{lit≤}
 use Rattle.text.specs.Template.{capital, holes}
-use Rattle.table.proofs.LineKinds as law
+use Rattle.table_text.proofs.LineKinds as law
 use Rattle.table.proofs.form.read.Statement.{statement}
 use Rattle.table.proofs.form.read.Tie as tie
 

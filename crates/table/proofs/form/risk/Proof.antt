@@ -1,7 +1,7 @@
--- `programme::form::risk` meets its contract.
+-- `table::form::risk` meets its contract.
 -- Assumes nothing.
 use borrow.Author.Needs.{needs}
-use Rattle.table.proofs.LineKinds as law
+use Rattle.table_text.proofs.LineKinds as law
 use Rattle.table.proofs.form.risk.Statement.{statement}
 use Rattle.table.proofs.form.risk.Tie as tie
 

@@ -1,7 +1,7 @@
--- `programme::form::surplus` meets its contract.
+-- `table::form::surplus` meets its contract.
 -- Assumes nothing.
 use borrow.Author.Needs.{needs}
-use Rattle.table.proofs.LineKinds as law
+use Rattle.table_text.proofs.LineKinds as law
 use Rattle.table.proofs.form.surplus.Statement.{statement}
 use Rattle.table.proofs.form.surplus.Tie as tie
 

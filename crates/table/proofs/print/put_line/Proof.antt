@@ -1,4 +1,4 @@
--- `programme::print::put_line` meets its contract.
+-- `table::print::put_line` meets its contract.
 -- Assumes nothing.
 use borrow.Author.Needs.{needs}
 use Rattle.text.proofs.Puts.{put-append}

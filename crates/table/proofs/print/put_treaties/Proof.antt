@@ -1,10 +1,10 @@
--- `programme::print::put_treaties` meets its contract.
+-- `table::print::put_treaties` meets its contract.
 -- Assumes nothing.
 use Prim.Native.Nat.{_-_}
 use borrow.Author.Needs.{needs}
 use Rattle.lists.proofs.Passes.{unmapped}
 use Rattle.text.proofs.Passes.{none-passed, passed-length, passed-small}
-use Rattle.table.specs.Forms.{treatyLine}
+use Rattle.table_text.specs.Forms.{treatyLine}
 use Rattle.table.proofs.Tables as law
 use Rattle.table.proofs.print.put_treaties.Statement.{statement}
 use Rattle.table.proofs.print.put_treaties.Tie as tie

@@ -1,4 +1,4 @@
--- `programme::print::put_treaty` meets its contract.
+-- `table::print::put_treaty` meets its contract.
 -- Assumes nothing.
 use borrow.Author.Needs.{needs}
 use Rattle.text.specs.Template.{capital, holes}

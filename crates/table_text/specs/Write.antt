@@ -9,7 +9,7 @@ use Rattle.programme.specs.declared.Answer.{Answer}
 use Rattle.programme.specs.declared.contract.Programme.{Programme}
 use Rattle.programme.specs.Contracts.{contractsIn}
 use Rattle.programme.specs.Valid.{valid}
-use Rattle.table.specs.Forms.{tableOf}
+use Rattle.table_text.specs.Forms.{tableOf}
 
 -- the table text of a programme
 abbrev pub textOf : Programme → List ℕ

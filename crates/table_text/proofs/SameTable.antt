@@ -12,10 +12,10 @@ use Rattle.lists.proofs.Cases.{by-test, by-lt}
 use Rattle.text.proofs.Ascii.{Byte}
 use Rattle.programme.specs.declared.contract.Programme.{Programme}
 use Rattle.programme.specs.Valid.{valid}
-use Rattle.table.specs.declared.Reading.{Reading}
-use Rattle.table.specs.Read.{readAs, readOf}
-use Rattle.table.specs.Write.{textOf, written, fitted, writeOf}
-use Rattle.table.proofs.RoundTrip.{read-valid, read-written, written-read, text-bytes}
+use Rattle.table_text.specs.declared.Reading.{Reading}
+use Rattle.table_text.specs.Read.{readAs, readOf}
+use Rattle.table_text.specs.Write.{textOf, written, fitted, writeOf}
+use Rattle.table_text.proofs.RoundTrip.{read-valid, read-written, written-read, text-bytes}
 
 -- some text of bytes is read as the programme p
 pub record SomeText (p : Programme) : Type 0 where

@@ -12,12 +12,12 @@ use Rattle.programme.specs.declared.contract.Programme.{Programme}
 use Rattle.programme.specs.Contracts.{inOrder, contractsIn}
 use Rattle.programme.specs.Valid.{valid}
 use Rattle.programme.proofs.Lawful.{contracts-placed, lawful-valid, valid-placed, valid-lawful}
-use Rattle.table.specs.Forms.{lineOf, tableOf}
-use Rattle.table.specs.Read.{readAs, readOf}
-use Rattle.table.specs.Write.{textOf}
-use Rattle.table.proofs.Lines.{line-bytes}
-use Rattle.table.proofs.TextRead.{table-read}
-use Rattle.table.proofs.TableBack.{table-back}
+use Rattle.table_text.specs.Forms.{lineOf, tableOf}
+use Rattle.table_text.specs.Read.{readAs, readOf}
+use Rattle.table_text.specs.Write.{textOf}
+use Rattle.table_text.proofs.Lines.{line-bytes}
+use Rattle.table_text.proofs.TextRead.{table-read}
+use Rattle.table_text.proofs.TableBack.{table-back}
 
 -- what is read is valid
 pub read-valid : (s : List ℕ) (p : Programme) → readOf s ≡ readAs p → valid p ≡ true

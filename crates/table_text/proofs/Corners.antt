@@ -19,10 +19,10 @@ use Rattle.programme.specs.Ranges.{outside, treatyOutside, termsOutside, treaty
 use Rattle.programme.specs.Rules.{treatyFault, layerFault}
 use Rattle.programme.specs.Valid.{validTreaties, validLayers, valid}
 use Rattle.programme.proofs.Corners.{eightTerms, withRisk}
-use Rattle.table.specs.declared.Reading.{Reading}
-use Rattle.table.specs.Forms.{kindOf, formOfKind, formOf, treatyLine}
-use Rattle.table.specs.Read.{refusedAt, readAs, readFrom, readOf}
-use Rattle.table.specs.Write.{refused, written, fitted, writeOf}
+use Rattle.table_text.specs.declared.Reading.{Reading}
+use Rattle.table_text.specs.Forms.{kindOf, formOfKind, formOf, treatyLine}
+use Rattle.table_text.specs.Read.{refusedAt, readAs, readFrom, readOf}
+use Rattle.table_text.specs.Write.{refused, written, fitted, writeOf}
 
 -- the text of some lines, and what it reads to
 abbrev text : List String → List ℕ

@@ -26,11 +26,11 @@ use Rattle.programme.specs.declared.contract.Contract.the-variants.{Proportiona
 use Rattle.programme.specs.Ranges.{treatyOutside, termsOutside}
 use Rattle.programme.proofs.Bounds.{QuotaInRange, SurplusInRange, TreatyInRange}
 use Rattle.programme.proofs.Bounds.{treaty-in-range, terms-in-range}
-use Rattle.table.specs.declared.form.Form.the-variants.{Line, NoForm}
-use Rattle.table.specs.Forms.{quotaText, surplusText, riskText, catText}
-use Rattle.table.specs.Forms.{quotaFrom, surplusFrom, termsFrom, quotaNumbers, surplusNumbers, termsNumbers}
-use Rattle.table.specs.Forms.{formIf, kindOf, formOfKind, formOf, treatyLine, lineOf}
-use Rattle.table.proofs.LineKinds.{kind-other}
+use Rattle.table_text.specs.declared.Form.the-variants.{Line, NoForm}
+use Rattle.table_text.specs.Forms.{quotaText, surplusText, riskText, catText}
+use Rattle.table_text.specs.Forms.{quotaFrom, surplusFrom, termsFrom, quotaNumbers, surplusNumbers, termsNumbers}
+use Rattle.table_text.specs.Forms.{formIf, kindOf, formOfKind, formOf, treatyLine, lineOf}
+use Rattle.table_text.proofs.LineKinds.{kind-other}
 
 -- every number of a contract is within its range
 abbrev pub Fit : Contract → Type 0

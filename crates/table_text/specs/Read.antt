@@ -8,10 +8,10 @@ use lib.ListN.{length}
 use Rattle.programme.specs.declared.contract.Programme.{Programme}
 use Rattle.programme.specs.Contracts.{Contracts, noContracts, entered, programmeOf}
 use Rattle.programme.specs.Rules.{faultOf}
-use Rattle.table.specs.declared.Reading.{Reading}
-use Rattle.table.specs.declared.form.Form.{Form}
-use Rattle.table.specs.declared.form.Form.the-variants.{Line, NoForm}
-use Rattle.table.specs.Forms.{formsOf}
+use Rattle.table_text.specs.declared.Reading.{Reading}
+use Rattle.table_text.specs.declared.Form.{Form}
+use Rattle.table_text.specs.declared.Form.the-variants.{Line, NoForm}
+use Rattle.table_text.specs.Forms.{formsOf}
 
 -- a refusal: its number, the line, and the programme without contracts
 abbrev pub refusedAt : (refusal line : ℕ) → Reading

@@ -13,10 +13,10 @@ use Rattle.text.specs.declared.template.Numbers.{Numbers}
 use Rattle.treaty.specs.declared.Treaty.{Treaty}
 use Rattle.layer.specs.declared.terms.Terms.{Terms}
 use Rattle.programme.specs.declared.contract.Contract.the-variants.{Proportional, Risk, Cat}
-use Rattle.table.specs.declared.form.Form.{Form}
-use Rattle.table.specs.declared.form.Form.the-variants.{Line, NoForm}
-use Rattle.table.specs.Forms.{quotaText, surplusText, riskText, catText, termsFrom, formIf}
-use Rattle.table.specs.Forms.{quotaForm, surplusForm, riskForm, catForm, kindOf, formOfKind, formOf}
+use Rattle.table_text.specs.declared.Form.{Form}
+use Rattle.table_text.specs.declared.Form.the-variants.{Line, NoForm}
+use Rattle.table_text.specs.Forms.{quotaText, surplusText, riskText, catText, termsFrom, formIf}
+use Rattle.table_text.specs.Forms.{quotaForm, surplusForm, riskForm, catForm, kindOf, formOfKind, formOf}
 
 -- a line of less than two bytes has no kind
 pub too-short : (s : List ℕ) → length s < 2 → 0 ≡ kindOf s

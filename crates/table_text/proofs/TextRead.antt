@@ -23,12 +23,12 @@ use Rattle.programme.specs.Valid.{treatyPasses, layerPasses}
 use Rattle.programme.proofs.Faults.{LayerFaultless, treaty-faultless, layer-faultless}
 use Rattle.programme.proofs.Tests.{treaty-passes, layer-passes}
 use Rattle.programme.proofs.Lawful.{Lawful}
-use Rattle.table.specs.declared.Reading.{Reading}
-use Rattle.table.specs.declared.form.Form.{Form}
-use Rattle.table.specs.declared.form.Form.the-variants.{Line, NoForm}
-use Rattle.table.specs.Forms.{formOf, lineForm, formsOf, lineOf, tableOf}
-use Rattle.table.specs.Read.{refusedAt, readAs, unlessFault, readFrom, readOf}
-use Rattle.table.proofs.Lines.{form-read}
+use Rattle.table_text.specs.declared.Reading.{Reading}
+use Rattle.table_text.specs.declared.Form.{Form}
+use Rattle.table_text.specs.declared.Form.the-variants.{Line, NoForm}
+use Rattle.table_text.specs.Forms.{formOf, lineForm, formsOf, lineOf, tableOf}
+use Rattle.table_text.specs.Read.{refusedAt, readAs, unlessFault, readFrom, readOf}
+use Rattle.table_text.proofs.Lines.{form-read}
 
 none-left : {A : Type 0} (xs : List A) → length xs ≡ 0 → xs ≡ []
 none-left [] e = refl

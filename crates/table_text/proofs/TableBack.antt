@@ -23,12 +23,12 @@ use Rattle.programme.specs.Rules.{treatyNumber, bandEnd, lastOf, treatyFault, l
 use Rattle.programme.specs.Valid.{treatyPasses, layerPasses}
 use Rattle.programme.proofs.Faults.{treaty-fine, layer-fine}
 use Rattle.programme.proofs.Lawful.{Lawful, treaty-passed, layer-passed, at-most-eight}
-use Rattle.table.specs.declared.Reading.{Reading}
-use Rattle.table.specs.declared.form.Form.{Form}
-use Rattle.table.specs.declared.form.Form.the-variants.{Line}
-use Rattle.table.specs.Forms.{lineForm, formsOf, lineOf, tableOf}
-use Rattle.table.specs.Read.{readAs, readFrom, readOf}
-use Rattle.table.proofs.Lines.{Fit, form-printed, line-no-feed, line-short}
+use Rattle.table_text.specs.declared.Reading.{Reading}
+use Rattle.table_text.specs.declared.Form.{Form}
+use Rattle.table_text.specs.declared.Form.the-variants.{Line}
+use Rattle.table_text.specs.Forms.{lineForm, formsOf, lineOf, tableOf}
+use Rattle.table_text.specs.Read.{readAs, readFrom, readOf}
+use Rattle.table_text.proofs.Lines.{Fit, form-printed, line-no-feed, line-short}
 
 -- The lines of one kind, read one after another: `state` gives all contracts from those of this kind, `form` the
 -- contract of one. One that passes after the last has no fault, and is entered.

@@ -17,8 +17,8 @@ use Rattle.layer.specs.Layer.{termsOf}
 use Rattle.programme.specs.declared.contract.Contract.{Contract}
 use Rattle.programme.specs.declared.contract.Contract.the-variants.{Proportional, Risk, Cat}
 use Rattle.programme.specs.Contracts.{Contracts, inOrder}
-use Rattle.table.specs.declared.form.Form.{Form}
-use Rattle.table.specs.declared.form.Form.the-variants.{Line, NoForm}
+use Rattle.table_text.specs.declared.Form.{Form}
+use Rattle.table_text.specs.declared.Form.the-variants.{Line, NoForm}
 
 -- the templates, as document 01 prints the forms
 abbrev pub quotaText : List ℕ
