@@ -2,9 +2,8 @@
 ghost use mathlib.Core.Path.{_≡_};
 ghost use mathlib.Core.Bool.{true};
 ghost use lib.ListN.{length};
-ghost use Rattle.programme.specs.Contracts.{treatiesIn};
 ghost use Rattle.programme.specs.Valid.{validTreaties};
-ghost use Rattle.losses.specs.Register.{numbered, lackingNumbers, registerOf, lackAt};
+ghost use Rattle.losses.specs.Register.{registerOf, lackAt};
 use programme::contract;
 use programme::contract::Treaties;
 use treaty::Treaty;
@@ -14,42 +13,8 @@ pub struct ByNumber {
     pub places: [Treaty; 9],
 }
 
-// The treaties by their numbers.
-pub fn by_number(treaties: Treaties) -> ByNumber
-    requires { ⌜ validTreaties treaties ≡ true ⌝ }
-    ensures { λ r. ⌜ r .places ≡ numbered (treatiesIn treaties) ⌝ }
-{
-    let count = treaties.count;
-    let mut places = [contract::no_treaty(); 9];
-    let mut i: usize = 0;
-    while i < count {
-        let t = treaties.places[i];
-        let number = t.number as usize;
-        places[number] = t;
-        i += 1;
-    }
-    ByNumber { places }
-}
-
-// Place T holds 1 for a number T other than 0 that the table lacks, and 0 otherwise.
-pub fn lacking(treaties: Treaties) -> [u64; 9]
-    requires { ⌜ validTreaties treaties ≡ true ⌝ }
-    ensures { λ r. ⌜ r ≡ lackingNumbers (treatiesIn treaties) ⌝ }
-{
-    let count = treaties.count;
-    let mut lacks = [1u64; 9];
-    lacks[0] = 0;
-    let mut i: usize = 0;
-    while i < count {
-        let t = treaties.places[i];
-        let number = t.number as usize;
-        lacks[number] = 0;
-        i += 1;
-    }
-    lacks
-}
-
-// A programme's treaties, with their places by number and the numbers that are lacking.
+// A programme's treaties, with their places by number and the numbers that are lacking: place T of these holds 1 for a
+// number T other than 0 that the table lacks, and 0 otherwise.
 pub struct Register {
     pub treaties: Treaties,
     pub numbered: ByNumber,
@@ -61,11 +26,21 @@ pub fn register_of(treaties: Treaties) -> Register
     requires { ⌜ validTreaties treaties ≡ true ⌝ }
     ensures { λ r. ⌜ r ≡ registerOf treaties ⌝ }
 {
-    let numbered = by_number(treaties);
-    let lacking = lacking(treaties);
+    let count = treaties.count;
+    let mut places = [contract::no_treaty(); 9];
+    let mut lacking = [1u64; 9];
+    lacking[0] = 0;
+    let mut i: usize = 0;
+    while i < count {
+        let t = treaties.places[i];
+        let number = t.number as usize;
+        places[number] = t;
+        lacking[number] = 0;
+        i += 1;
+    }
     Register {
         treaties,
-        numbered,
+        numbered: ByNumber { places },
         lacking,
     }
 }
