@@ -38,11 +38,11 @@ use Rattle.statement.specs.Numbers.{numbersOf}
 use Rattle.statement.specs.Shows.{Fits, Shows}
 use Rattle.statement.proofs.Shown.{numbers-length}
 use Rattle.booking.specs.declared.progress.Progress.{Progress}
-use Rattle.lines.specs.declared.pass.Passed.{Passed}
-use Rattle.engine.specs.declared.run.Ran.{Ran}
 use Rattle.booking.specs.Records.{yearIn, SoundRecords}
 use Rattle.booking.specs.Progress.{FirstOf, Stands}
+use Rattle.lines.specs.declared.pass.Passed.{Passed}
 use Rattle.lines.specs.Pass.{CanPass, passIs}
+use Rattle.engine.specs.declared.run.Ran.{Ran}
 use Rattle.engine.specs.Run.{ranOf, runLines, restNumbers, CanKeep, CanRun, PlacesFor}
 use Rattle.engine.proofs.Stating.{through-length, all-kept}
 

@@ -20,8 +20,8 @@ use Rattle.year.specs.Statement.{amountsNumbers, treatyShown, layerLineOf, laye
 use Rattle.year.specs.Run.{Outcome, runThrough, answerOf, bufferAfter, standingAfter}
 use Rattle.statement.specs.Numbers.{numbersOf, cededLine}
 use Rattle.booking.specs.declared.progress.Progress.{Progress}
-use Rattle.engine.specs.declared.run.Ran.{Ran}
 use Rattle.booking.specs.Records.{SoundRecords}
+use Rattle.engine.specs.declared.run.Ran.{Ran}
 
 -- the answer of an outcome, and the standing after it
 abbrev pub ranOf : Outcome → Standing → Ran

@@ -40,15 +40,15 @@ use Rattle.losses.specs.Cede.{lossesFrom, cededAdded}
 use Rattle.losses.proofs.Added.{added-length}
 use Rattle.losses.proofs.Added as by
 use Rattle.booking.specs.declared.progress.Progress.{Progress}
-use Rattle.lines.specs.declared.pass.Passed.{Passed}
 use Rattle.booking.specs.Records.{yearIn}
 use Rattle.booking.specs.Progress.{CanBook, Booked, Stands}
-use Rattle.lines.specs.Pass.{CanPass, passIs}
 use Rattle.losses.proofs.RegisterFacts.{treaties, cedes, by-number, places-terms, lack-le, nine-lacks}
 use Rattle.losses.proofs.RegisterFacts.{lacking-same}
-use Rattle.lines.proofs.LossPass.{Listed, none-listed, count-small, same-numbers, one-listed, kept-losses}
 use Rattle.booking.proofs.EventBounds.{SoundLayers, Bookable, amounts-le}
 use Rattle.booking.proofs.Booking.{one-booked, added-le}
+use Rattle.lines.specs.declared.pass.Passed.{Passed}
+use Rattle.lines.specs.Pass.{CanPass, passIs}
+use Rattle.lines.proofs.LossPass.{Listed, none-listed, count-small, same-numbers, one-listed, kept-losses}
 
 -- events before what the lines after them give
 abbrev pub eventsBefore : List Event → EventsRead → EventsRead

@@ -13,9 +13,9 @@ use Rattle.year.specs.Statement.{totals}
 use Rattle.losses.specs.declared.register.Register.{Register}
 use Rattle.losses.specs.Register.{registerOf}
 use Rattle.booking.specs.declared.progress.Progress.{Progress}
-use Rattle.lines.specs.declared.pass.Passed.{Passed}
 use Rattle.booking.specs.Records.{SoundRecords}
 use Rattle.booking.specs.Progress.{Stands}
+use Rattle.lines.specs.declared.pass.Passed.{Passed}
 
 -- a progress before the first event, and amounts of 0 for each number T
 pub record CanPass (text : List ℕ) (register : Register) (start : Progress) (cs : List ℕ) : Type 0 where
