@@ -87,7 +87,7 @@ module _ (ts : List Treaty) (start : Progress) (d₀ cs₀ : List ℕ) (es : Lis
   }
 
 -- amounts added to amounts that are at most b, and to the sum of two bounds
-pub added-le : (b c m : ℕ) (u v : Amounts) → b + c ≤ m → Each (λ (n : ℕ). n ≤ b) (amountsNumbers u)
+pub amounts-added-le : (b c m : ℕ) (u v : Amounts) → b + c ≤ m → Each (λ (n : ℕ). n ≤ b) (amountsNumbers u)
     → Each (λ (n : ℕ). n ≤ c) (amountsNumbers v) → Each (λ (n : ℕ). n ≤ m) (amountsNumbers (added (u ∷ v ∷ [])))
-added-le b c m u v h (a₁, (a₂, (a₃, (a₄, (a₅, (a₆, _)))))) (b₁, (b₂, (b₃, (b₄, (b₅, (b₆, _)))))) =
+amounts-added-le b c m u v h (a₁, (a₂, (a₃, (a₄, (a₅, (a₆, _)))))) (b₁, (b₂, (b₃, (b₄, (b₅, (b₆, _)))))) =
     (omega arith, (omega arith, (omega arith, (omega arith, (omega arith, (omega arith, tt))))))

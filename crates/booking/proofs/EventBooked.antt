@@ -6,24 +6,20 @@ use mathlib.Core.List.{List, [], _∷_, _++_}
 use Prim.Native.Nat.{ℕ, _+_, _-_, _*_, _/_, _^_, _≤_}
 use native.Mathlib.Nat.{add-zero}
 use native.Mathlib.Omega.{arith}
-use lib.ListN.{length, replicate, take, length-take}
+use lib.ListN.{length, replicate, take}
 use lib.Seq.{sets, length-sets, take-at, length-take-le}
 use mir.Syntax.{w64}
 use mir.Val.{Fits}
 use Rattle.lists.specs.Sums.{total}
-use Rattle.lists.proofs.Bounds.{sum-le}
 use Rattle.text.specs.Buffer.{Put}
 use Rattle.text.proofs.Puts.{put-whole}
 use Rattle.treaty.specs.declared.Treaty.{Treaty}
 use Rattle.treaty.specs.declared.Loss.{Loss}
-use Rattle.treaty.specs.Losses.{grossOf, leftOfEach}
-use Rattle.treaty.specs.Ranges.{LossInRange}
+use Rattle.treaty.specs.Losses.{leftOfEach}
 use Rattle.treaty.proofs.Losses.{all-ceded-and-left}
-use Rattle.layer.specs.declared.tier.Tier.{Tier}
 use Rattle.layer.specs.declared.tier.TierBorne.{TierBorne}
 use Rattle.layer.specs.Tier.{chargesThrough, leftThrough, layersOf, layersThrough, layersAfter, tierThrough}
-use Rattle.layer.specs.Ranges.{SoundTier}
-use Rattle.layer.proofs.Tiers.{recoveries-le-subject, recovered-and-left-through, charges-through-le}
+use Rattle.layer.proofs.Tiers.{recoveries-le-subject, recovered-and-left-through}
 use Rattle.layer.proofs.Tiers.{layers-through, sound-tier-through}
 use Rattle.events.specs.Event.{Event}
 use Rattle.year.specs.declared.Amounts.{Amounts}
@@ -37,7 +33,8 @@ use Rattle.losses.proofs.Triples.{losses-count}
 use Rattle.booking.specs.declared.progress.Records.{Records}
 use Rattle.booking.specs.declared.progress.Progress.{Progress}
 use Rattle.booking.specs.Records.{yearIn}
-use Rattle.booking.specs.Progress.{Room, CanEnter, CanBook, Booked}
+use Rattle.booking.specs.Progress.{RoomForMore, CanEnter, CanBook, Booked}
+use Rattle.booking.proofs.EventBounds.{tier-layers, charges-small, gross-small}
 
 -- amounts, added one by one
 pub added-both : (a b : Amounts)
@@ -63,7 +60,7 @@ added-both a b j = record {
     alone m n = omega arith
 
 -- none of the last three sums passes a word
-module _ (a b : Amounts) (h : Room a × Room b) where
+module _ (a b : Amounts) (h : RoomForMore a × RoomForMore b) where
   pub cat-fits : Fits w64 (a .cat + b .cat)
   cat-fits = omega (arith, h .0, h .1)
 
@@ -72,16 +69,6 @@ module _ (a b : Amounts) (h : Room a × Room b) where
 
   pub premiums-fit : Fits w64 (a .premium + b .premium)
   premiums-fit = omega (arith, h .0, h .1)
-
--- a sound tier charges at most 32 × 10^13
-charges-small : (ys : List ℕ) (t : Tier) → SoundTier t → chargesThrough ys (layersOf t) ≤ 32 * 10 ^ 13
-charges-small ys t s =
-    omega (
-      arith,
-      charges-through-le ys (layersOf t) (s .each),
-      length-take (t .count) (t .layers),
-      s .count,
-    )
 
 -- The amounts ys went through the risk layers, which recover m of them.
 module _ (p : Progress) (c : Ceded) (ys : List ℕ) (h : CanEnter p c ys) (risk : TierBorne)
@@ -119,10 +106,10 @@ module _ (p : Progress) (c : Ceded) (ys : List ℕ) (h : CanEnter p c ys) (risk 
       premium-le = rw (is-u, is-v, is-risk, is-cat) (omega (arith, by-risk, by-cat))
         where
           by-risk : chargesThrough ys (layersOf (r .risk)) ≤ 32 * 10 ^ 13
-          by-risk = charges-small ys (r .risk) (h .records .risk)
+          by-risk = charges-small ys (layersOf (r .risk)) (tier-layers (r .risk) (h .records .risk))
 
           by-cat : chargesThrough (subject ∷ []) (layersOf (r .cat)) ≤ 32 * 10 ^ 13
-          by-cat = charges-small (subject ∷ []) (r .cat) (h .records .cat)
+          by-cat = charges-small (subject ∷ []) (layersOf (r .cat)) (tier-layers (r .cat) (h .records .cat))
 
       pub premium-fits : Fits w64 (u + v)
       premium-fits = omega (arith, premium-le)
@@ -138,7 +125,7 @@ module _ (p : Progress) (c : Ceded) (ys : List ℕ) (h : CanEnter p c ys) (risk 
         premium = u + v;
       }
 
-      pub amounts-room : Room (p .total) × Room its
+      pub amounts-room : RoomForMore (p .total) × RoomForMore its
       amounts-room =
           let within = h .small in
           let parts = h .parts in
@@ -245,17 +232,13 @@ module _ {p : Progress} {table : ByNumber} {ns cs : List ℕ} (h : CanBook p tab
     parts =
         rw (lefts-are (h .cede .treaties) (h .cede .by-number), known .gross, known .ceded)
         (all-ceded-and-left (h .cede .treaties) (h .cedes) [] (lossesFrom ns));
-    small = rw (known .gross) (omega (arith, each-le, h .cede .few));
+    small = rw (known .gross) (gross-small (lossesFrom ns) (h .cede .losses) (h .cede .few));
     totals = h .totals;
     kept = h .kept;
   }
     where
       known : AfterTreaties (h .cede .treaties) (lossesFrom ns) cs cs′ c
       known = k (h .cede .treaties) (h .cede .by-number) .0
-
-      each-le : grossOf (lossesFrom ns) ≤ length (lossesFrom ns) * 10 ^ 13
-      each-le = sum-le LossInRange (λ (x : Loss). x .amount) (10 ^ 13) (λ x g. g .amount) (lossesFrom ns)
-          (h .cede .losses)
 
   -- so the event is booked
   pub booked : {day : ℕ} {d d′ : List ℕ} {r : Progress}

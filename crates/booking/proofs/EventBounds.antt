@@ -5,7 +5,7 @@ use mathlib.Core.Path.{_≡_}
 use mathlib.Core.List.{List, [], _∷_}
 use Prim.Native.Nat.{ℕ, _+_, _*_, _^_, _≤_}
 use native.Mathlib.Omega.{arith}
-use lib.ListN.{length}
+use lib.ListN.{length, length-take}
 use Rattle.lists.specs.Sums.{total}
 use Rattle.lists.specs.Each.{Each}
 use Rattle.lists.proofs.Bounds.{sum-le}
@@ -15,8 +15,9 @@ use Rattle.treaty.specs.Ranges.{LossInRange}
 use Rattle.treaty.specs.Losses.{grossOf, cededOfEach}
 use Rattle.treaty.proofs.Losses.{all-ceded-and-left}
 use Rattle.layer.specs.declared.record.Layer.{Layer}
-use Rattle.layer.specs.Tier.{recoveriesThrough, leftThrough, recoveriesBy}
-use Rattle.layer.specs.Ranges.{Sound, Rising}
+use Rattle.layer.specs.declared.tier.Tier.{Tier}
+use Rattle.layer.specs.Tier.{recoveriesThrough, chargesThrough, leftThrough, recoveriesBy, layersOf}
+use Rattle.layer.specs.Ranges.{Sound, Rising, SoundTier}
 use Rattle.layer.proofs.Tiers.{recovered-and-left-through, charges-through-le, recoveries-le-subject}
 use Rattle.events.specs.Event.{Event}
 use Rattle.year.specs.Event.{Year, leftByTreaties, subjectOf, eventAmounts}
@@ -28,6 +29,23 @@ pub record SoundLayers (ls : List Layer) : Type 0 where
   pub each : Each Sound ls
   pub rising : Rising 0 ls
 
+pub tier-layers : (t : Tier) → SoundTier t → SoundLayers (layersOf t)
+tier-layers t s = record {
+  few = omega (arith, length-take (t .count) (t .layers), s .count);
+  each = s .each;
+  rising = s .rising;
+}
+
+-- what they charge
+pub charges-small : (ys : List ℕ) (ls : List Layer) → SoundLayers ls → chargesThrough ys ls ≤ 32 * 10 ^ 13
+charges-small ys ls s = omega (arith, charges-through-le ys ls (s .each), s .few)
+
+-- what the losses of an event come to
+pub gross-small : (xs : List Loss) → Each LossInRange xs → length xs ≤ 64 → grossOf xs ≤ 64 * 10 ^ 13
+gross-small xs r few =
+    let each = sum-le LossInRange (λ (x : Loss). x .amount) (10 ^ 13) (λ x h. h .amount) xs r in
+    omega (arith, each)
+
 -- a year, its treaties and an event that may be booked
 pub record Bookable (ts : List Treaty) (y : Year) (e : Event) : Type 0 where
   pub cedes : Each (λ (t : Treaty). t .cede ≤ 10000) ts
@@ -37,11 +55,6 @@ pub record Bookable (ts : List Treaty) (y : Year) (e : Event) : Type 0 where
   pub few : length (e .losses) ≤ 64
 
 module _ (ts : List Treaty) (y : Year) (e : Event) (b : Bookable ts y e) where
-  gross-le : grossOf (e .losses) ≤ 64 * 10 ^ 13
-  gross-le =
-      let each = sum-le LossInRange (λ (x : Loss). x .amount) (10 ^ 13) (λ x h. h .amount) (e .losses) (b .losses) in
-      omega (arith, each, b .few)
-
   ceded-and-left : grossOf (e .losses)
       ≡ total (cededOfEach ts [] (e .losses)) + total (leftByTreaties ts e)
   ceded-and-left = all-ceded-and-left ts (b .cedes) [] (e .losses)
@@ -63,16 +76,14 @@ module _ (ts : List Treaty) (y : Year) (e : Event) (b : Bookable ts y e) where
   charges-le =
       omega (
         arith,
-        charges-through-le (leftByTreaties ts e) (y .risk) (b .risk .each),
-        charges-through-le (subjectOf ts y e ∷ []) (y .cat) (b .cat .each),
-        b .risk .few,
-        b .cat .few,
+        charges-small (leftByTreaties ts e) (y .risk) (b .risk),
+        charges-small (subjectOf ts y e ∷ []) (y .cat) (b .cat),
       )
 
   -- each of its amounts
   pub amounts-le : Each (λ (n : ℕ). n ≤ 64 * 10 ^ 13) (amountsNumbers (eventAmounts ts y e))
   amounts-le =
-      let within = gross-le in
+      let within = gross-small (e .losses) (b .losses) (b .few) in
       let parts = subject-is in
       let net = cat-le in
       (within, (omega arith, (omega arith, (omega arith, (omega arith, (charges-le, tt))))))

@@ -23,8 +23,8 @@ use Rattle.booking.specs.declared.progress.Progress.{Progress}
 use Rattle.booking.specs.Records.{yearIn, SoundRecords}
 
 -- amounts with room for those of an event more
-abbrev pub Room : Amounts → Type 0
-Room a = Each (λ (n : ℕ). n ≤ 2 ^ 62) (amountsNumbers a)
+abbrev pub RoomForMore : Amounts → Type 0
+RoomForMore a = Each (λ (n : ℕ). n ≤ 2 ^ 62) (amountsNumbers a)
 
 -- What c and ys take to go through the layers: sound records, a gross amount of at most 64 × 10^13 that is what is
 -- ceded and what is left, and totals and a place that leave room for it.
@@ -32,7 +32,7 @@ pub record CanEnter (p : Progress) (c : Ceded) (ys : List ℕ) : Type 0 where
   pub records : SoundRecords (p .records)
   pub parts : c .gross ≡ c .ceded + total ys
   pub small : c .gross ≤ 64 * 10 ^ 13
-  pub totals : Room (p .total)
+  pub totals : RoomForMore (p .total)
   pub kept : p .kept < 2 ^ 32
 
 -- What booking an event takes: sound records, what its treaties take to cede, of which each cedes at most the whole,
@@ -41,7 +41,7 @@ pub record CanBook (p : Progress) (table : ByNumber) (ns cs : List ℕ) : Type 0
   pub records : SoundRecords (p .records)
   pub cede : CanCede table ns cs
   pub cedes : Each (λ (t : Treaty). t .cede ≤ 10000) (cede .treaties)
-  pub totals : Room (p .total)
+  pub totals : RoomForMore (p .total)
   pub kept : p .kept < 2 ^ 32
 
 -- The event e was booked under the treaties ts: p became r. The numbers of its line were kept in d, which is d′ then,

@@ -13,7 +13,7 @@ ghost use Rattle.year.specs.Standing.{standingOf, standingPasses};
 ghost use Rattle.losses.specs.Register.{numbered};
 ghost use Rattle.losses.specs.Cede.{lossesFrom, AfterTreaties};
 ghost use Rattle.booking.specs.Records.{yearIn, SoundRecords};
-ghost use Rattle.booking.specs.Progress.{Room, CanEnter, CanBook, Booked, FirstOf};
+ghost use Rattle.booking.specs.Progress.{RoomForMore, CanEnter, CanBook, Booked, FirstOf};
 use layer::tier::Tier;
 use losses::cede;
 use losses::cede::Ceded;
@@ -31,7 +31,7 @@ pub struct Records {
 
 // The totals with the amounts of an event more.
 fn total_with(total: Amounts, event: Amounts) -> Amounts
-    requires { ⌜ Room total × Room event ⌝ }
+    requires { ⌜ RoomForMore total × RoomForMore event ⌝ }
     ensures { λ r. ⌜ r ≡ added (total ∷ event ∷ []) ⌝ }
 {
     Amounts {

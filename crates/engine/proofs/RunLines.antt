@@ -126,7 +126,7 @@ module _ (p : Programme) (s : Standing) (text d₀ : List ℕ) (can : CanRun 655
               → Accepted p s text d₀ start (r .progress) d cs
           by-answer (turnedDown k l) g told =
               absurd (told .1 (sym (ap (λ (y : Passed). y .refusal) (told .0)) ∙ z))
-          by-answer (events es) g told = record { es = es; read = g; stands = told .1; few = told .2 }
+          by-answer (events es) g told = record { es = es; read = g; stands = told .2; few = told .3 }
 
       module _ (z : r .refusal ≡ 0) where
         abbrev a : Accepted p s text d₀ start (r .progress) d cs

@@ -21,7 +21,7 @@ use Rattle.year.specs.Statement.{cededBy, treatyLineOf, layerLineOf, statementO
 use Rattle.year.specs.Statement.{linesShown, riskTemplate, catTemplate}
 use Rattle.losses.specs.Cede.{cededAdded}
 use Rattle.losses.proofs.Added.{added-length, added-at}
-use Rattle.statement.specs.Numbers.{numbersOf, cededLine}
+use Rattle.statement.specs.Numbers.{numbersOf, layersNumbers, cededLine}
 use Rattle.statement.proofs.Shown.{numbers-append, layers-numbers}
 use Rattle.booking.specs.declared.progress.Progress.{Progress}
 use Rattle.booking.specs.Records.{yearIn}
@@ -79,16 +79,16 @@ module _ (n : ℕ) (es : List Event) where
 parts : (t : Statement) → numbersOf (linesShown t)
     ≡ numbersOf (map eventShown (t .events))
     ++ (numbersOf (map treatyShown (t .treaties))
-    ++ (numbersOf (layersShown [] 1 (t .layers .risk))
-    ++ (numbersOf (layersShown [] 1 (t .layers .cat)) ++ amountsNumbers (t .total))))
+    ++ (layersNumbers 1 (t .layers .risk)
+    ++ (layersNumbers 1 (t .layers .cat) ++ amountsNumbers (t .total))))
 parts t =
     rw (
       numbers-append (map eventShown (t .events)) _,
       numbers-append (map treatyShown (t .treaties)) _,
       numbers-append (layersShown riskTemplate 1 (t .layers .risk)) _,
       numbers-append (layersShown catTemplate 1 (t .layers .cat)) _,
-      layers-numbers riskTemplate [] 1 (t .layers .risk),
-      layers-numbers catTemplate [] 1 (t .layers .cat),
+      layers-numbers riskTemplate 1 (t .layers .risk),
+      layers-numbers catTemplate 1 (t .layers .cat),
     )
 
 module _ (ts : List Treaty) (r : Numbered 0 ts) (z : Each (λ (t : Treaty). t .number ≤ 8) ts)
@@ -99,13 +99,13 @@ module _ (ts : List Treaty) (r : Numbered 0 ts) (z : Each (λ (t : Treaty). t .n
 
   rest-is : restNumbers ts cs p
       ≡ numbersOf (map treatyShown (shown .treaties))
-      ++ (numbersOf (layersShown [] 1 (shown .layers .risk))
-      ++ (numbersOf (layersShown [] 1 (shown .layers .cat)) ++ amountsNumbers (shown .total)))
+      ++ (layersNumbers 1 (shown .layers .risk)
+      ++ (layersNumbers 1 (shown .layers .cat) ++ amountsNumbers (shown .total)))
   rest-is =
       let treaties = ap (λ (ls : List TreatyLine). numbersOf (map treatyShown ls))
       (ap (λ (ms : List ℕ). map (cededLine ms) ts) (s .cessions) ∙ treaty-lines 0 es ts r z) in
-      let risk = ap (λ (y : Year). numbersOf (layersShown [] 1 (map layerLineOf (y .risk)))) (s .year) in
-      let cat = ap (λ (y : Year). numbersOf (layersShown [] 1 (map layerLineOf (y .cat)))) (s .year) in
+      let risk = ap (λ (y : Year). layersNumbers 1 (map layerLineOf (y .risk))) (s .year) in
+      let cat = ap (λ (y : Year). layersNumbers 1 (map layerLineOf (y .cat))) (s .year) in
       let amounts = ap amountsNumbers (s .total) in
       λ i. treaties i ++ (risk i ++ (cat i ++ amounts i))
 

@@ -2,7 +2,7 @@
 -- Assumes nothing.
 use mathlib.Core.Bool.{true}
 use mathlib.Core.Path.{_≡_}
-use mathlib.Core.List.{List, [], _++_, map}
+use mathlib.Core.List.{List, _++_, map}
 use Prim.Native.Nat.{ℕ, _+_, _*_, _^_, _≤_, _<_}
 use lib.ListN.{length}
 use Rattle.lists.specs.Each.{Each}
@@ -16,9 +16,9 @@ use Rattle.events.specs.Event.{formsOf}
 use Rattle.events.specs.Read.{readFrom}
 use Rattle.year.specs.declared.Standing.{Standing}
 use Rattle.year.specs.Standing.{standingPasses}
-use Rattle.year.specs.Statement.{amountsNumbers, treatyShown, layerLineOf, layersShown}
+use Rattle.year.specs.Statement.{amountsNumbers, treatyShown, layerLineOf}
 use Rattle.year.specs.Run.{Outcome, runThrough, answerOf, bufferAfter, standingAfter}
-use Rattle.statement.specs.Numbers.{numbersOf, cededLine}
+use Rattle.statement.specs.Numbers.{numbersOf, layersNumbers, cededLine}
 use Rattle.booking.specs.declared.progress.Progress.{Progress}
 use Rattle.booking.specs.Records.{SoundRecords}
 use Rattle.engine.specs.declared.run.Ran.{Ran}
@@ -44,8 +44,8 @@ runLines p s text room =
 abbrev pub restNumbers : List Treaty → (cs : List ℕ) → Progress → List ℕ
 restNumbers ts cs p =
     numbersOf (map treatyShown (map (cededLine cs) ts))
-    ++ (numbersOf (layersShown [] 1 (map layerLineOf (layersOf (p .records .risk))))
-    ++ (numbersOf (layersShown [] 1 (map layerLineOf (layersOf (p .records .cat)))) ++ amountsNumbers (p .total)))
+    ++ (layersNumbers 1 (map layerLineOf (layersOf (p .records .risk)))
+    ++ (layersNumbers 1 (map layerLineOf (layersOf (p .records .cat))) ++ amountsNumbers (p .total)))
 
 -- what keeping them takes
 pub record CanKeep (t : Treaties) (cs : List ℕ) (p : Progress) : Type 0 where

@@ -19,9 +19,6 @@ use Rattle.text.proofs.Feeds.{line-at, line-last, line-none}
 use Rattle.text.proofs.Puts.{put-none}
 use Rattle.treaty.specs.declared.Treaty.{Treaty}
 use Rattle.treaty.specs.declared.Loss.{Loss}
-use Rattle.layer.specs.declared.tier.Tier.{Tier}
-use Rattle.layer.specs.Tier.{layersOf}
-use Rattle.layer.specs.Ranges.{SoundTier}
 use Rattle.programme.specs.Ranges.{outside}
 use Rattle.events.specs.Event.{Event, closes, eventOf, formsOf}
 use Rattle.events.specs.Rules.{lossOutside, eventOutside, lacking, faultOf, eventFault}
@@ -37,15 +34,14 @@ use Rattle.year.specs.Statement.{totals, amountsNumbers}
 use Rattle.losses.specs.declared.register.Register.{Register}
 use Rattle.losses.specs.Register.{numbered, lackAt}
 use Rattle.losses.specs.Cede.{lossesFrom, cededAdded}
-use Rattle.losses.proofs.Added.{added-length}
-use Rattle.losses.proofs.Added as by
+use Rattle.losses.proofs.Added.{added-length, added-le}
 use Rattle.booking.specs.declared.progress.Progress.{Progress}
 use Rattle.booking.specs.Records.{yearIn}
 use Rattle.booking.specs.Progress.{CanBook, Booked, Stands}
 use Rattle.losses.proofs.RegisterFacts.{treaties, cedes, by-number, places-terms, lack-le, nine-lacks}
 use Rattle.losses.proofs.RegisterFacts.{lacking-same}
-use Rattle.booking.proofs.EventBounds.{SoundLayers, Bookable, amounts-le}
-use Rattle.booking.proofs.Booking.{one-booked, added-le}
+use Rattle.booking.proofs.EventBounds.{tier-layers, Bookable, amounts-le}
+use Rattle.booking.proofs.Booking.{one-booked, amounts-added-le}
 use Rattle.lines.specs.declared.pass.Passed.{Passed}
 use Rattle.lines.specs.Pass.{CanPass, passIs}
 use Rattle.lines.proofs.LossPass.{Listed, none-listed, count-small, same-numbers, one-listed, kept-losses}
@@ -112,14 +108,6 @@ going-begins register start text d cs lacks ns c l n = record {
   rest = refl;
 }
 
--- the layers of a sound tier
-tier-layers : (t : Tier) → SoundTier t → SoundLayers (layersOf t)
-tier-layers t s = record {
-  few = omega (arith, length-take (t .count) (t .layers), s .count);
-  each = s .each;
-  rising = s .rising;
-}
-
 refuses : (n w : ℕ) (e : Event) (r : EventsRead) → (n ≡ 0 → ⊥) → unlessFault n w e r ≡ turnedDown n w
 refuses zero w e r h = absurd (h refl)
 refuses (suc n) w e r h = refl
@@ -151,7 +139,7 @@ module _ (register : Register) (start : Progress) (text d₀ cs₀ lacks ns : Li
       let none-left : readFrom (treaties register) (number + 1) (p .day) (formsOf (drop at text)) ≡ events [] =
       rw (line-none text at h) in
       let whole = g .rest ∙ ap (eventsBefore (g .es)) none-left ∙ before-events (g .es) [] in
-      rw (whole, append-nil (g .es), e) (refl, g .stands, omega (arith, g .few, g .within))
+      rw (whole, append-nil (g .es), e) (refl, refl, g .stands, omega (arith, g .few, g .within))
 
   module _ (e : ℕ) (q : e ≡ lineEnd text at) (h : at < length text) where
     -- bytes after the last line feed
@@ -358,7 +346,7 @@ module _ (register : Register) (start : Progress) (text d₀ cs₀ lacks ns : Li
                 few = omega (arith, g .few, booked .kept .place, line-length);
                 totals-le =
                     rw (booked .total)
-                    (added-le (64 * 10 ^ 12 * at) (64 * 10 ^ 13) (64 * 10 ^ 12 * (e + 1)) (p .total) _
+                    (amounts-added-le (64 * 10 ^ 12 * at) (64 * 10 ^ 13) (64 * 10 ^ 12 * (e + 1)) (p .total) _
                     (omega (arith, line-length)) (g .totals-le)
                     (amounts-le (treaties register) (yearIn (p .records)) event bookable));
                 cessions-le =
@@ -367,7 +355,7 @@ module _ (register : Register) (start : Progress) (text d₀ cs₀ lacks ns : Li
                     (λ (m : ℕ). m ≤ 64 * 10 ^ 12 * (e + 1))
                     (λ m i. omega (arith, lawful .few, line-length))
                     (cededAdded (treaties register) [] cs (k .xs))
-                    (by.added-le (treaties register) (cedes register (g .can .treaties) (g .can .by-number))
+                    (added-le (treaties register) (cedes register (g .can .treaties) (g .can .by-number))
                     (64 * 10 ^ 12 * at) [] cs (k .xs) (g .cessions-le) (lawful .losses)));
                 nine = rw (booked .cessions) (added-length (treaties register) [] cs (k .xs) ∙ g .nine);
                 same-kept = same ∙ g .same-kept;

@@ -72,9 +72,6 @@ none-listed lacking line ns h d first out q y o l s = record {
 
 module _ (lacking line : List ℕ) (d : ℕ) (ns₀ ns : List ℕ) (place count out lacks : ℕ)
     (g : Listed lacking line d ns₀ ns place count out lacks) where
-  pub inside-line : place ≤ length line
-  inside-line = g .ahead .within
-
   pub count-small : count ≤ 65536
   count-small = omega (arith, g .counted, g .ahead .begun, g .ahead .within, g .short)
 

@@ -17,7 +17,8 @@ use Rattle.booking.specs.Records.{SoundRecords}
 use Rattle.booking.specs.Progress.{Stands}
 use Rattle.lines.specs.declared.pass.Passed.{Passed}
 
--- a progress before the first event, and amounts of 0 for each number T
+-- What a pass takes: a text of at most 65,536 bytes, the register of valid treaties, a progress before the first event
+-- and amounts of 0 for each number T.
 pub record CanPass (text : List ℕ) (register : Register) (start : Progress) (cs : List ℕ) : Type 0 where
   pub short : length text ≤ 65536
   pub treaties : validTreaties (register .treaties) ≡ true
@@ -33,4 +34,7 @@ abbrev pub passIs : List Treaty → Progress → (text d d′ cs cs′ : List �
 passIs ts start text d d′ cs cs′ r (turnedDown n w) =
     (r ≡ record { refusal = n; line = w; progress = start }) × (n ≡ 0 → ⊥)
 passIs ts start text d d′ cs cs′ r (events es) =
-    (r .refusal ≡ 0) × Stands ts start d cs es (r .progress) d′ cs′ × (10 * r .progress .kept ≤ 7 * length text)
+    (r .refusal ≡ 0)
+    × (r .line ≡ 0)
+    × Stands ts start d cs es (r .progress) d′ cs′
+    × (10 * r .progress .kept ≤ 7 * length text)

@@ -86,6 +86,7 @@ pub fn pass(
         at = end + 1;
         progress = progress.book(register.numbered, day, &losses[..3 * count], kept, cessions);
     }
+    // Still before the end: the loops were left by the label, at bytes that are no loss form.
     if at < text.len() {
         return refused(10, number, start);
     }

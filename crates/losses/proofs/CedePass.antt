@@ -80,7 +80,6 @@ pub record Ceding (ps : List Treaty) (xs : List Loss) (k : ℕ) (l₀ cs₀ l cs
   pub room : k ≤ length l
   pub same-left : length l ≡ length l₀
   pub same-sums : length cs ≡ length cs₀
-  pub nine-sums : length cs ≡ 9
   pub nine-earlier : length us ≡ 9
   pub gross-le : g ≤ i * 10 ^ 13
   pub ceded-le : c ≤ g
@@ -103,7 +102,6 @@ module _ (table : ByNumber) (ns l cs : List ℕ) (nine : length (table .places) 
     room = omega (arith, losses-count ns);
     same-left = refl;
     same-sums = refl;
-    nine-sums = can .places;
     nine-earlier = refl;
     gross-le = omega arith;
     ceded-le = omega arith;
@@ -187,7 +185,6 @@ module _ {ps : List Treaty} {xs : List Loss} {k : ℕ} {l₀ cs₀ l cs us : Lis
         room = omega (arith, h .room, length-set l i (x .amount - cededOfLoss treaty u x));
         same-left = length-set l i _ ∙ h .same-left;
         same-sums = length-set cs (x .treaty) _ ∙ h .same-sums;
-        nine-sums = length-set cs (x .treaty) _ ∙ h .nine-sums;
         nine-earlier = length-set us (x .treaty) _ ∙ h .nine-earlier;
         gross-le = omega (arith, h .gross-le, loss-in-range .amount);
         ceded-le = omega (arith, h .ceded-le, ceded-le-gross);

@@ -34,14 +34,14 @@ earlier-own t (x ∷ xs) =
     own-or-not true l = refl
     own-or-not false l = sym (zero-add (grossOf l))
 
-none-ceded : (u : ℕ) (x : Loss) → 0 ≡ cededOfLoss noTreaty u x
+nothing-ceded : (u : ℕ) (x : Loss) → 0 ≡ cededOfLoss noTreaty u x
 unfolding cededOfLoss cededOf
-none-ceded u x = refl
+nothing-ceded u x = refl
 
 pub ceded-with : (ts : List Treaty) (earlier : List Loss) (x : Loss)
     → cededIn ts earlier x ≡ cededOfLoss (withNumber ts (x .treaty)) (earlierAt (x .treaty) earlier) x
 unfolding cededIn
-ceded-with [] earlier x = none-ceded (earlierAt (x .treaty) earlier) x
+ceded-with [] earlier x = nothing-ceded (earlierAt (x .treaty) earlier) x
 ceded-with (t ∷ ts) earlier x =
     first (eqb (x .treaty) (t .number)) refl (withNumber ts (x .treaty)) (ceded-with ts earlier x)
   where

@@ -1,5 +1,6 @@
 pub mod Stores
 pub mod Numbers
+pub mod Storing
 pub mod Triples
 pub mod Earlier
 pub mod Added

@@ -40,10 +40,10 @@ abbrev pub treaties : Register → List Treaty
 treaties t = treatiesIn (t .treaties)
 
 -- a table of numbers up to 8 lacks every number above
-lacks-above : (ts : List Treaty) → Each (λ (t : Treaty). t .number ≤ 8) ts → (n : ℕ) → 8 < n → inTable ts n ≡ false
-lacks-above [] z n h = ne-eqb n 0 (λ e. omega arith)
-lacks-above (t ∷ ts) z n h =
-    rw (ne-eqb n (t .number) (λ e. omega (arith, z .0))) (lacks-above ts (z .1) n h)
+number-lacking : (ts : List Treaty) → Each (λ (t : Treaty). t .number ≤ 8) ts → (n : ℕ) → 8 < n → inTable ts n ≡ false
+number-lacking [] z n h = ne-eqb n 0 (λ e. omega arith)
+number-lacking (t ∷ ts) z n h =
+    rw (ne-eqb n (t .number) (λ e. omega (arith, z .0))) (number-lacking ts (z .1) n h)
 
 one-at-most : (b : Bool) → cond {A = ℕ} b 0 1 ≤ 1
 one-at-most true = omega arith
@@ -82,7 +82,7 @@ module _ (register : Register) (v : validTreaties (register .treaties) ≡ true)
   lack-same n =
       by-lt n 9
       (λ h. simp (lackAt, lt-ltb n 9 h) (lacking-at (treaties register) n (omega arith)))
-      (λ h. simp (lackAt, le-ltb n 9 h, lacks-above (treaties register) numbers n (omega arith)))
+      (λ h. simp (lackAt, le-ltb n 9 h, number-lacking (treaties register) numbers n (omega arith)))
 
   pub lack-le : (ls : List ℕ) → ls ≡ register .lacking → (n l : ℕ) → l ≡ lackAt ls n → l ≤ 1
   lack-le ls e n l q =

@@ -2,13 +2,13 @@
 -- Assumes nothing.
 use mathlib.Core.Path.{_≡_}
 use mathlib.Core.List.{List, [], _∷_, map}
-use Prim.Native.Nat.{ℕ, zero, suc, _+_, _≤_, _<_}
+use Prim.Native.Nat.{ℕ, _+_, _≤_, _<_}
 use native.Mathlib.Numerals.{add-one}
 use native.Mathlib.Omega.{arith}
-use lib.ListN.{length, take, drop, getD}
+use lib.ListN.{length, take, getD}
 use lib.Seq.{slice, slice-cons, slice-empty}
 use Rattle.lists.specs.Each.{Each}
-use Rattle.lists.proofs.Passes.{each-next}
+use Rattle.lists.proofs.Passes.{each-first}
 use Rattle.treaty.specs.declared.Treaty.{Treaty}
 use Rattle.layer.specs.declared.record.Layer.{Layer}
 use Rattle.layer.specs.declared.amount.Whole.{Whole}
@@ -17,18 +17,8 @@ use Rattle.layer.specs.Ranges.{Sound}
 use Rattle.layer.specs.Layer.{deductibleLeftOf, coverLeftOf, recoveredOf, premiumOf}
 use Rattle.text.specs.Buffer.{Put}
 use Rattle.text.proofs.Passes.{Passing, passed-short, one-passed, all-passed}
-use Rattle.year.specs.Statement.{layerLineOf, layerNumbers, treatyShown, layersShown}
-use Rattle.statement.specs.Numbers.{numbersOf, cededLine}
-
--- what each of the first n elements has, the one at i has
-each-drop : {A : Type 0} (P : A → Type 0) (i : ℕ) (xs : List A) → Each P xs → Each P (drop i xs)
-each-drop P zero xs e = e
-each-drop P (suc i) [] e = e
-each-drop P (suc i) (x ∷ xs) e = each-drop P i xs (e .1)
-
-each-at : {A : Type 0} (P : A → Type 0) (i n : ℕ) (xs : List A) (x : A) → i < n → n ≤ length xs
-    → Each P (take n xs) → P (getD xs i x)
-each-at P i n xs x more inside e = each-next i n xs more inside P x (each-drop P i (take n xs) e)
+use Rattle.year.specs.Statement.{layerLineOf, layerNumbers, treatyShown}
+use Rattle.statement.specs.Numbers.{numbersOf, layersNumbers, cededLine}
 
 -- The pass over the first n of the treaties ts, as `Passing` says, where place T of cs holds what treaty T cedes.
 abbrev pub TreatiesKept : (cs : List ℕ) (ts : List Treaty) (n : ℕ) (d : List ℕ) (at : ℕ) (d′ : List ℕ) (next i : ℕ)
@@ -44,7 +34,7 @@ module _ (cs : List ℕ) (ts : List Treaty) (n : ℕ) (d : List ℕ) (at : ℕ) 
   -- one treaty more
   module _ (t : Treaty) (more : i < n) where
     pub number-inside : Each (λ (t : Treaty). t .number < length cs) (take n ts) → getD ts i t .number < length cs
-    number-inside e = each-at (λ (t : Treaty). t .number < length cs) i n ts t more (g .inside) e
+    number-inside e = each-first i n ts more (g .inside) (λ (x : Treaty). x .number < length cs) t e
 
     pub treaty-kept : {d″ : List ℕ} {end : ℕ}
         → Put d′ next (getD ts i t .number ∷ getD cs (getD ts i t .number) 0 ∷ []) d″ end
@@ -60,7 +50,7 @@ module _ (cs : List ℕ) (ts : List Treaty) (n : ℕ) (d : List ℕ) (at : ℕ) 
 -- The pass over the first n of the layers ls.
 abbrev pub LayersKept : (ls : List Layer) (n : ℕ) (d : List ℕ) (at : ℕ) (d′ : List ℕ) (next i : ℕ) → Type 0
 LayersKept ls n d at d′ next i =
-    Passing (λ (i : ℕ). numbersOf (layersShown [] (i + 1) (map layerLineOf (slice i n ls)))) 5 ls n d at d′ next i
+    Passing (λ (i : ℕ). layersNumbers (i + 1) (map layerLineOf (slice i n ls))) 5 ls n d at d′ next i
 
 module _ (ls : List Layer) (n : ℕ) (d : List ℕ) (at : ℕ) (d′ : List ℕ) (next i : ℕ)
     (g : LayersKept ls n d at d′ next i) where
@@ -70,7 +60,7 @@ module _ (ls : List Layer) (n : ℕ) (d : List ℕ) (at : ℕ) (d′ : List ℕ)
   -- one layer more
   module _ (y : Layer) (more : i < n) where
     pub layer-sound : Each Sound (take n ls) → Sound (getD ls i y)
-    layer-sound e = each-at Sound i n ls y more (g .inside) e
+    layer-sound e = each-first i n ls more (g .inside) Sound y e
 
     pub layer-kept : {d″ : List ℕ} {end : ℕ}
         → Put d′ next (layerNumbers (i + 1) (layerLineOf (getD ls i y))) d″ end → LayersKept ls n d at d″ end (i + 1)
@@ -79,7 +69,7 @@ module _ (ls : List Layer) (n : ℕ) (d : List ℕ) (at : ℕ) (d′ : List ℕ)
         (omega (arith, p .place))
 
   -- no layer is left
-  pub layers-kept : n ≤ i → Put d at (numbersOf (layersShown [] 1 (map layerLineOf (take n ls)))) d′ next
+  pub layers-kept : n ≤ i → Put d at (layersNumbers 1 (map layerLineOf (take n ls))) d′ next
   layers-kept ended = all-passed _ _ _ _ _ _ _ _ _ g ended (rw slice-empty)
 
 -- a layer's numbers, each as it was found

@@ -17,7 +17,7 @@ use Rattle.year.specs.Statement.{Line, EventLine, TreatyLine, LayerLine, Statem
 use Rattle.year.specs.Statement.{layersShown, totalShown, linesShown, statementText}
 use Rattle.year.specs.Statement.{eventTemplate, treatyTemplate, riskTemplate, catTemplate, totalTemplate}
 use Rattle.statement.specs.declared.print.Counts.{Counts}
-use Rattle.statement.specs.Numbers.{numbersOf, rowsText}
+use Rattle.statement.specs.Numbers.{numbersOf, layersNumbers, rowsText}
 use Rattle.statement.specs.Shows.{linesIn, Fits, Shows}
 use Rattle.statement.proofs.Rows.{no-rows, more-rows}
 
@@ -25,11 +25,10 @@ pub numbers-append : (ls ms : List Line) → numbersOf (ls ++ ms) ≡ numbersOf 
 numbers-append [] ms = refl
 numbers-append (l ∷ ls) ms = rw (numbers-append ls ms) (sym (append-assoc (l .numbers) (numbersOf ls) (numbersOf ms)))
 
--- the template does not matter
-pub layers-numbers : (a b : List ℕ) (i : ℕ) (ls : List LayerLine)
-    → numbersOf (layersShown a i ls) ≡ numbersOf (layersShown b i ls)
-layers-numbers a b i [] = refl
-layers-numbers a b i (l ∷ ls) = rw (layers-numbers a b (i + 1) ls)
+-- the numbers of layers' lines by any template
+pub layers-numbers : (t : List ℕ) (i : ℕ) (ls : List LayerLine) → numbersOf (layersShown t i ls) ≡ layersNumbers i ls
+layers-numbers t i [] = refl
+layers-numbers t i (l ∷ ls) = rw (layers-numbers t (i + 1) ls)
 
 -- lines of one template, each with w numbers
 abbrev Alike : (t : List ℕ) (w : ℕ) → List Line → Type 0

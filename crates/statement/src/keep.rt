@@ -1,5 +1,5 @@
 // The numbers of a statement's lines, kept in a lent slice one after another.
-ghost use mathlib.Core.List.{[], map};
+ghost use mathlib.Core.List.{map};
 ghost use Prim.Native.Nat.{_+_, _^_, _≤_, _<_};
 ghost use lib.ListN.{length};
 ghost use Rattle.lists.specs.Each.{Each};
@@ -7,8 +7,8 @@ ghost use Rattle.text.specs.Buffer.{Put};
 ghost use Rattle.layer.specs.Ranges.{Sound, SoundTier};
 ghost use Rattle.layer.specs.Tier.{layersOf};
 ghost use Rattle.programme.specs.Contracts.{treatiesIn};
-ghost use Rattle.year.specs.Statement.{layerLineOf, layerNumbers, treatyShown, layersShown};
-ghost use Rattle.statement.specs.Numbers.{numbersOf, cededLine};
+ghost use Rattle.year.specs.Statement.{layerLineOf, layerNumbers, treatyShown};
+ghost use Rattle.statement.specs.Numbers.{numbersOf, layersNumbers, cededLine};
 use layer::record::Layer;
 use layer::tier::Tier;
 use programme::contract::Treaties;
@@ -49,7 +49,7 @@ fn keep_layer(kept: &mut [u64], at: usize, place: u64, layer: Layer) -> usize
 // The numbers of the lines of a tier's layers, from place 1 on.
 pub fn keep_layers(kept: &mut [u64], at: usize, tier: Tier) -> usize
     requires { ⌜ (at < 2 ^ 32) × SoundTier tier ⌝ }
-    ensures { λ r. ⌜ Put (now (kept .entry)) at (numbersOf (layersShown [] 1 (map layerLineOf (layersOf tier))))
+    ensures { λ r. ⌜ Put (now (kept .entry)) at (layersNumbers 1 (map layerLineOf (layersOf tier)))
         (now (kept .exit)) r × (r ≤ at + 40) ⌝ }
 {
     let count = tier.count;

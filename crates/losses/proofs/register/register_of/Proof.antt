@@ -8,7 +8,7 @@ use Rattle.treaty.specs.declared.Treaty.{Treaty}
 use Rattle.programme.specs.Contracts.{noTreaty, treatiesIn}
 use Rattle.events.specs.Rules.{inTable}
 use Rattle.losses.specs.Register.{withNumber}
-use Rattle.losses.proofs.Numbers as law
+use Rattle.losses.proofs.Storing as law
 use Rattle.losses.proofs.RegisterFacts.{register-made}
 use Rattle.losses.proofs.register.register_of.Statement.{statement}
 use Rattle.losses.proofs.register.register_of.Tie as tie
