@@ -5,7 +5,7 @@ use mathlib.Core.Bool.{true}
 use mathlib.Core.List.{List, [], _∷_, map}
 use Prim.Native.Nat.{ℕ, suc, _+_, _*_, _/_, _≤_, _<_}
 use native.Mathlib.Omega.{arith}
-use lib.ListN.{length, take, drop, replicate, length-map, length-append}
+use lib.ListN.{length, take, drop, replicate, length-map, length-append, length-replicate}
 use lib.Seq.{length-sets, length-take-le, take-at}
 use Rattle.lists.specs.Each.{Each}
 use Rattle.lists.proofs.Each.{each-so}
@@ -45,6 +45,14 @@ use Rattle.lines.specs.Pass.{CanPass, passIs}
 use Rattle.engine.specs.declared.run.Ran.{Ran}
 use Rattle.engine.specs.Run.{ranOf, runLines, restNumbers, CanKeep, CanRun, PlacesFor}
 use Rattle.engine.proofs.Stating.{through-length, all-kept}
+
+-- a place for each number
+pub with-places : (n m z : ℕ) (p : Programme) (s : Standing) (text : List ℕ) → n ≤ 65536 → 7 * n + 1020 ≤ 10 * m
+    → CanRun n p s text → CanRun 65536 p s text × PlacesFor text (replicate m z)
+with-places n m z p s text h k r = (
+  record { programme = r .programme; standing = r .standing; short = omega (arith, r .short) },
+  record { room = rw (length-replicate m z) (omega (arith, r .short)) },
+)
 
 with-length : (ts : List Terms) (ms : List ℕ) → length (layersWith ts ms) ≡ length ts
 with-length [] ms = refl

@@ -1,12 +1,11 @@
--- The tests of a run before its lines: 6, 8 and 9; and the places that its numbers need.
+-- The tests of a run before its lines: 6, 8 and 9.
 -- Assumes nothing.
 use mathlib.Core.Path.{_≡_, refl, sym, _∙_}
 use mathlib.Core.Bool.{Bool, true, false}
 use mathlib.Core.List.{List}
-use Prim.Native.Nat.{ℕ, _+_, _*_, _≤_, _<_}
-use native.Mathlib.Omega.{arith}
+use Prim.Native.Nat.{ℕ, _≤_, _<_}
 use borrow.Author.Tests.{lt-ltb, le-ltb}
-use lib.ListN.{length, replicate, length-replicate}
+use lib.ListN.{length}
 use Rattle.programme.specs.declared.contract.Programme.{Programme}
 use Rattle.programme.specs.Contracts.{contractsIn}
 use Rattle.programme.specs.Valid.{valid}
@@ -15,15 +14,7 @@ use Rattle.year.specs.declared.Standing.{Standing}
 use Rattle.year.specs.Standing.{standingPasses}
 use Rattle.year.specs.Run.{refused, runFrom, runOf}
 use Rattle.engine.specs.declared.run.Ran.{Ran}
-use Rattle.engine.specs.Run.{ranOf, RanAs, runLines, CanRun, PlacesFor}
-
--- a place for each number
-pub with-places : (n m z : ℕ) (p : Programme) (s : Standing) (text : List ℕ) → n ≤ 65536 → 7 * n + 1020 ≤ 10 * m
-    → CanRun n p s text → CanRun 65536 p s text × PlacesFor text (replicate m z)
-with-places n m z p s text h k r = (
-  record { programme = r .programme; standing = r .standing; short = omega (arith, r .short) },
-  record { room = rw (length-replicate m z) (omega (arith, r .short)) },
-)
+use Rattle.engine.specs.Run.{ranOf, RanAs, runLines, CanRun}
 
 module _ (p : Programme) (s : Standing) (text d : List ℕ) (t : Bool) (a : t ≡ valid p) where
   pub invalid : t ≡ false → (r : Ran) → r ≡ ranOf (refused 6 0) s → RanAs (runOf p s text (length d)) s d d r

@@ -28,8 +28,8 @@ pub record CanPass (text : List ℕ) (register : Register) (start : Progress) (c
   pub kept : start .kept ≡ 0
   pub cessions : cs ≡ replicate 9 0
 
--- what a pass comes to, by what reading the text comes to: the refusal and its line, or the events booked; at most
--- seven numbers are kept for each ten bytes
+-- What a pass comes to, by what reading the text comes to: the refusal, its line and the progress that the pass began
+-- with, or the events booked; at most seven numbers are kept for each ten bytes.
 abbrev pub passIs : List Treaty → Progress → (text d d′ cs cs′ : List ℕ) → Passed → EventsRead → Type 0
 passIs ts start text d d′ cs cs′ r (turnedDown n w) =
     (r ≡ record { refusal = n; line = w; progress = start }) × (n ≡ 0 → ⊥)

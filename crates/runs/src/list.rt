@@ -9,30 +9,16 @@ use crate::case::case;
 use crate::case::marked;
 use crate::show::number;
 use crate::show::words;
+use text::line;
 use text::number::Number;
 use year::Standing;
-
-// Where a byte stands next, or the end of the text.
-fn find(text: &[u8], from: usize, byte: u8) -> usize
-    requires { ⌜ from ≤ length (now text) ⌝ }
-    ensures { λ r. ⌜ (from ≤ r) × (r ≤ length (now (text .entry))) ⌝ }
-{
-    let mut i = from;
-    while i < text.len() {
-        if text[i] == byte {
-            return i;
-        }
-        i += 1;
-    }
-    i
-}
 
 // The end of the field that begins at a place.
 fn field_end(case: &[u8], from: usize) -> usize
     requires { ⌜ from ≤ length (now case) ⌝ }
     ensures { λ r. ⌜ (from ≤ r) × (r ≤ length (now (case .entry))) ⌝ }
 {
-    find(case, from, b'|')
+    line::place_of(case, from, b'|')
 }
 
 // The place after a bar; the end of the case has none after it.
@@ -138,7 +124,7 @@ pub fn cases(list: &[u8]) {
     let mut standing = standings::fresh();
     let mut at: usize = 0;
     while at < list.len() {
-        let end = find(list, at, b'#');
+        let end = line::place_of(list, at, b'#');
         if end == list.len() {
             return;
         }

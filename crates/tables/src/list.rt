@@ -15,25 +15,11 @@ use crate::task;
 use crate::write::answer;
 use crate::write::back;
 use crate::write::sizes;
-
-// Where a byte stands next, or the end of the list.
-fn mark(list: &[u8], from: usize, byte: u8) -> usize
-    requires { ⌜ from ≤ length (now list) ⌝ }
-    ensures { λ r. ⌜ (from ≤ r) × (r ≤ length (now (list .entry))) ⌝ }
-{
-    let mut i = from;
-    while i < list.len() {
-        if list[i] == byte {
-            return i;
-        }
-        i += 1;
-    }
-    i
-}
+use text::line;
 
 // Does what stands after a case's semicolon.
 fn tasked(name: &[u8], tasks: &[u8], text: &[u8]) {
-    let end = mark(tasks, 0, b';');
+    let end = line::place_of(tasks, 0, b';');
     let first = task::read(&tasks[..end]);
     let second = task::read(&tasks[end..]);
     let letter = first.letter;
@@ -56,7 +42,7 @@ fn tasked(name: &[u8], tasks: &[u8], text: &[u8]) {
 
 // A case, by its head.
 fn case(head: &[u8], text: &[u8]) {
-    let end = mark(head, 0, b';');
+    let end = line::place_of(head, 0, b';');
     if end == head.len() {
         reading(head, text);
     } else {
@@ -74,12 +60,12 @@ pub fn cases(list: &[u8], from: usize) -> usize
         if list[at] == b'~' {
             return at + 1;
         }
-        let middle = mark(list, at, b'|');
+        let middle = line::place_of(list, at, b'|');
         if middle == list.len() {
             return middle;
         }
         let start = middle + 1;
-        let end = mark(list, start, b'|');
+        let end = line::place_of(list, start, b'|');
         case(&list[at..middle], &list[start..end]);
         if end == list.len() {
             return end;

@@ -1,4 +1,5 @@
--- Laws of lines: where a line ends, the lines of a text, lines put together, and what a template prints in a line.
+-- Laws of lines: where a byte stands and a line ends, the lines of a text, lines put together, and what a template
+-- prints in a line.
 -- Assumes nothing.
 use mathlib.Core.Path.{_≡_, refl, sym, ap, _∙_}
 use mathlib.Core.Bool.{Bool, true, false}
@@ -15,52 +16,52 @@ use Rattle.lists.specs.Each.{Each}
 use Rattle.lists.proofs.Cases.{by-test, by-eq}
 use Rattle.text.specs.Number.{printed}
 use Rattle.text.specs.Template.{capital, filled}
-use Rattle.text.specs.Lines.{beginning, linesOf, joined, upToFeed, lineEnd}
+use Rattle.text.specs.Lines.{beginning, linesOf, joined, upTo, placeOf, lineEnd}
 use Rattle.text.proofs.Printing.{by-digits, printed-one, printed-more}
 
--- the search for the end e of a line, at the place i of the text s
-module _ (s : List ℕ) (i e : ℕ) (q : e ≡ lineEnd s i) where
-  pub end-of-text : length s ≤ i → i ≡ e
-  unfolding upToFeed
-  end-of-text h = sym (q ∙ rw (drop-of-length-le s h) (omega arith))
+-- the search for the next place e of a byte, at the place i of the text s
+module _ (byte : ℕ) (s : List ℕ) (i e : ℕ) (q : e ≡ placeOf byte s i) where
+  pub nowhere : length s ≤ i → i ≡ e
+  unfolding upTo
+  nowhere h = sym (q ∙ rw (drop-of-length-le s h) (omega arith))
 
-  pub end-here : i < length s → getD s i 0 ≡ 10 → i ≡ e
-  unfolding upToFeed
-  end-here h b = sym (q ∙ rw (drop-cons s i 0 h) (simp (upToFeed, eq-eqb _ _ b) (omega arith)))
+  pub here : i < length s → getD s i 0 ≡ byte → i ≡ e
+  unfolding upTo
+  here h b = sym (q ∙ rw (drop-cons s i 0 h) (simp (upTo, eq-eqb _ _ b) (omega arith)))
 
-  pub end-later : i < length s → (getD s i 0 ≡ 10 → ⊥) → e ≡ lineEnd s (i + 1)
-  unfolding upToFeed
-  end-later h b = q ∙ rw (drop-cons s i 0 h, add-one i) (simp (upToFeed, ne-eqb _ _ b) (omega arith))
+  pub later : i < length s → (getD s i 0 ≡ byte → ⊥) → e ≡ placeOf byte s (i + 1)
+  unfolding upTo
+  later h b = q ∙ rw (drop-cons s i 0 h, add-one i) (simp (upTo, ne-eqb _ _ b) (omega arith))
 
-up-to-feed-le : (s : List ℕ) → length (upToFeed s) ≤ length s
-unfolding upToFeed
+up-to-feed-le : (s : List ℕ) → length (upTo 10 s) ≤ length s
+unfolding upTo
 up-to-feed-le [] = omega arith
 up-to-feed-le (b ∷ s) =
     by-eq b 10
-    (λ e. simp (upToFeed, eq-eqb _ _ e) (omega arith))
-    (λ e. simp (upToFeed, ne-eqb _ _ e) (omega (arith, up-to-feed-le s)))
+    (λ e. simp (upTo, eq-eqb _ _ e) (omega arith))
+    (λ e. simp (upTo, ne-eqb _ _ e) (omega (arith, up-to-feed-le s)))
 
 -- the first line of a text, and the lines after it
-first-line : (s : List ℕ) → length (upToFeed s) < length s
-    → linesOf s ≡ some (take (length (upToFeed s)) s) ∷ linesOf (drop (suc (length (upToFeed s))) s)
-unfolding upToFeed linesOf
+first-line : (s : List ℕ) → length (upTo 10 s) < length s
+    → linesOf s ≡ some (take (length (upTo 10 s)) s) ∷ linesOf (drop (suc (length (upTo 10 s))) s)
+unfolding upTo linesOf
 first-line [] h = absurd (omega arith)
 first-line (b ∷ s) h =
     by-eq b 10
-    (λ e. simp (linesOf, upToFeed, eq-eqb _ _ e))
-    (λ e. let l = simp (upToFeed, ne-eqb _ _ e) at h in
-    simp (linesOf, upToFeed, ne-eqb _ _ e) (rw (first-line s (omega arith))))
+    (λ e. simp (linesOf, upTo, eq-eqb _ _ e))
+    (λ e. let l = simp (upTo, ne-eqb _ _ e) at h in
+    simp (linesOf, upTo, ne-eqb _ _ e) (rw (first-line s (omega arith))))
 
 -- bytes without a line feed
-no-feed : (b : ℕ) (s : List ℕ) → length (upToFeed (b ∷ s)) ≡ length (b ∷ s)
-    → (b ≡ 10 → ⊥) × (length (upToFeed s) ≡ length s)
-unfolding upToFeed
+no-feed : (b : ℕ) (s : List ℕ) → length (upTo 10 (b ∷ s)) ≡ length (b ∷ s)
+    → (b ≡ 10 → ⊥) × (length (upTo 10 s) ≡ length s)
+unfolding upTo
 no-feed b s h =
     by-eq b 10
-    (λ e. absurd (omega (arith, simp (upToFeed, eq-eqb b 10 e) at h)))
-    (λ e. (e, omega (arith, simp (upToFeed, ne-eqb b 10 e) at h)))
+    (λ e. absurd (omega (arith, simp (upTo, eq-eqb b 10 e) at h)))
+    (λ e. (e, omega (arith, simp (upTo, ne-eqb b 10 e) at h)))
 
-no-line : (s : List ℕ) → 0 < length s → length (upToFeed s) ≡ length s → linesOf s ≡ none ∷ []
+no-line : (s : List ℕ) → 0 < length s → length (upTo 10 s) ≡ length s → linesOf s ≡ none ∷ []
 unfolding linesOf
 no-line [] p h = absurd (omega arith)
 no-line (b ∷ []) p h = simp (linesOf, ne-eqb b 10 (no-feed b [] h .0))
@@ -75,7 +76,7 @@ module _ (s : List ℕ) (at e : ℕ) (q : e ≡ lineEnd s at) (h : at < length s
       first-line (drop at s) (omega (arith, up-to-feed-le (drop at s), length-drop at s))
       ∙ rw (size, drop-drop (suc (e - at)) at s, next)
     where
-      size : length (upToFeed (drop at s)) ≡ e - at
+      size : length (upTo 10 (drop at s)) ≡ e - at
       size = omega arith
 
       next : at + suc (e - at) ≡ e + 1

@@ -25,11 +25,15 @@ abbrev pub joined : List (List ℕ) → List ℕ
 joined [] = []
 joined (l ∷ ls) = l ++ (10 ∷ joined ls)
 
--- the bytes before the first line feed
-unfoldable pub upToFeed : List ℕ → List ℕ
-upToFeed [] = []
-upToFeed (b ∷ s) = elim (eqb b 10) [ true ↦ [] | false ↦ b ∷ upToFeed s ]
+-- the bytes before the first that is `byte`
+unfoldable pub upTo : (byte : ℕ) → List ℕ → List ℕ
+upTo byte [] = []
+upTo byte (b ∷ s) = elim (eqb b byte) [ true ↦ [] | false ↦ b ∷ upTo byte s ]
+
+-- where a byte stands next, from a place on, or the end of the text
+abbrev pub placeOf : (byte : ℕ) → List ℕ → ℕ → ℕ
+placeOf byte s at = at + length (upTo byte (drop at s))
 
 -- where the line that begins at a place ends: at its line feed, or at the end of the text
 abbrev pub lineEnd : List ℕ → ℕ → ℕ
-lineEnd s at = at + length (upToFeed (drop at s))
+lineEnd s at = placeOf 10 s at

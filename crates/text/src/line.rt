@@ -1,20 +1,28 @@
-// Lines, each ended by a line feed.
+// Lines, each ended by a line feed, and where a byte stands.
 ghost use mathlib.Core.Path.{_≡_};
 ghost use Prim.Native.Nat.{_+_, _≤_};
 ghost use lib.ListN.{length};
-ghost use Rattle.text.specs.Lines.{lineEnd};
+ghost use Rattle.text.specs.Lines.{placeOf, lineEnd};
+
+// Where a byte stands next, from a place on, or the end of the text.
+pub fn place_of(s: &[u8], at: usize, byte: u8) -> usize
+    requires { ⌜ at ≤ length (now s) ⌝ }
+    ensures { λ r. ⌜ (r ≡ placeOf byte (now (s .entry)) at) × (at ≤ r) × (r ≤ length (now (s .entry))) ⌝ }
+{
+    let mut i = at;
+    while i < s.len() {
+        if s[i] == byte {
+            return i;
+        }
+        i += 1;
+    }
+    i
+}
 
 // Where the line that begins at a place ends: at its line feed, or at the end of the text.
 pub fn end(s: &[u8], at: usize) -> usize
     requires { ⌜ at ≤ length (now s) ⌝ }
     ensures { λ r. ⌜ (r ≡ lineEnd (now (s .entry)) at) × (at ≤ r) × (r ≤ length (now (s .entry))) ⌝ }
 {
-    let mut i = at;
-    while i < s.len() {
-        if s[i] == b'\n' {
-            return i;
-        }
-        i += 1;
-    }
-    i
+    place_of(s, at, b'\n')
 }

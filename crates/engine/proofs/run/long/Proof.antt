@@ -2,7 +2,7 @@
 -- Assumes nothing.
 use borrow.Author.Needs.{needs}
 use lib.Dec.{lit≤}
-use Rattle.engine.proofs.RunTests as law
+use Rattle.engine.proofs.RunLines as law
 use Rattle.engine.proofs.run.long.Statement.{statement}
 use Rattle.engine.proofs.run.long.Tie as tie
 

@@ -18,8 +18,8 @@ fresh-requires c κs = search needs
 loop-holds : tie.Need-loop-holds Inv-loop μ-loop
 loop-holds c = search needs
 
-find-requires : tie.Need-find-requires Inv-loop μ-loop
-find-requires c κs = search needs
+place-of-requires : tie.Need-place-of-requires Inv-loop μ-loop
+place-of-requires c κs = search needs
 
 returns : tie.Need-returns Inv-loop μ-loop
 returns c = search needs
@@ -56,7 +56,7 @@ cases-spec =
     μ-loop
     fresh-requires
     loop-holds
-    find-requires
+    place-of-requires
     returns
     sub-fields
     part-fields-start

@@ -6,8 +6,8 @@ use borrow.Author.Needs.{needs}
 use Rattle.tables.proofs.list.case.Statement.{statement}
 use Rattle.tables.proofs.list.case.Tie as tie
 
-mark-requires : tie.Need-mark-requires
-mark-requires c κs = search needs
+place-of-requires : tie.Need-place-of-requires
+place-of-requires c κs = search needs
 
 reading-requires : tie.Need-reading-requires
 reading-requires c κs = search needs
@@ -40,7 +40,7 @@ pub case-spec : {M : Type 1} → statement M
 case-spec =
     tie.close
     (tie.spec
-    mark-requires
+    place-of-requires
     reading-requires
     slice-aggregate-tasked
     add-tasked

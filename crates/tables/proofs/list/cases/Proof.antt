@@ -24,8 +24,8 @@ add-result c = search needs
 returns : tie.Need-returns Inv-loop μ-loop
 returns c = search needs
 
-mark-requires : tie.Need-mark-requires Inv-loop μ-loop
-mark-requires c κs = search needs
+place-of-requires : tie.Need-place-of-requires Inv-loop μ-loop
+place-of-requires c κs = search needs
 
 returns-2 : tie.Need-returns-2 Inv-loop μ-loop
 returns-2 c = search needs
@@ -33,8 +33,8 @@ returns-2 c = search needs
 add-start : tie.Need-add-start Inv-loop μ-loop
 add-start c = search needs
 
-mark-requires-2 : tie.Need-mark-requires-2 Inv-loop μ-loop
-mark-requires-2 c κs = search needs
+place-of-requires-2 : tie.Need-place-of-requires-2 Inv-loop μ-loop
+place-of-requires-2 c κs = search needs
 
 sub-case : tie.Need-sub-case Inv-loop μ-loop
 sub-case c = search needs
@@ -82,10 +82,10 @@ cases-spec =
     shared-slice-read-if1
     add-result
     returns
-    mark-requires
+    place-of-requires
     returns-2
     add-start
-    mark-requires-2
+    place-of-requires-2
     sub-case
     part-case-start
     part-case-end

@@ -6,8 +6,8 @@ use borrow.Author.Needs.{needs}
 use Rattle.tables.proofs.list.tasked.Statement.{statement}
 use Rattle.tables.proofs.list.tasked.Tie as tie
 
-mark-requires : tie.Need-mark-requires
-mark-requires c κs = search needs
+place-of-requires : tie.Need-place-of-requires
+place-of-requires c κs = search needs
 
 slice-aggregate-read : tie.Need-slice-aggregate-read
 slice-aggregate-read c = sym (length-take-le _ _ (search needs))
@@ -67,7 +67,7 @@ pub tasked-spec : {M : Type 1} → statement M
 tasked-spec =
     tie.close
     (tie.spec
-    mark-requires
+    place-of-requires
     slice-aggregate-read
     read-requires
     sub-read

@@ -1,19 +1,19 @@
--- `text::line::end` meets its contract.
+-- `text::line::place_of` meets its contract.
 -- Assumes nothing.
 use mathlib.Core.Path.{_≡_}
 use Prim.Native.Nat.{_-_, _≤_}
 use borrow.Author.Needs.{needs}
 use lib.ListN.{length}
-use Rattle.text.specs.Lines.{lineEnd}
-use Rattle.text.proofs.Feeds.{end-of-text, end-here, end-later}
-use Rattle.text.proofs.line.end.Statement.{statement}
-use Rattle.text.proofs.line.end.Tie as tie
+use Rattle.text.specs.Lines.{placeOf}
+use Rattle.text.proofs.Feeds.{nowhere, here, later}
+use Rattle.text.proofs.line.place_of.Statement.{statement}
+use Rattle.text.proofs.line.place_of.Tie as tie
 
 abbrev Inv-loop : tie.InvT-loop
-Inv-loop s at i₀ i = (at ≤ i) × (i ≤ length s) × (lineEnd s at ≡ lineEnd s i)
+Inv-loop s at byte i₀ i = (at ≤ i) × (i ≤ length s) × (placeOf byte s at ≡ placeOf byte s i)
 
 abbrev μ-loop : tie.MeasureT-loop
-μ-loop s at i₀ i = length s - i
+μ-loop s at byte i₀ i = length s - i
 
 loop-holds : tie.Need-loop-holds Inv-loop μ-loop
 loop-holds c = search needs
@@ -22,7 +22,7 @@ shared-slice-read-if1 : tie.Need-shared-slice-read-if1 Inv-loop μ-loop
 shared-slice-read-if1 c = search needs
 
 returns : tie.Need-returns Inv-loop μ-loop
-returns c = (search end-here, search needs, search needs)
+returns c = (search here, search needs, search needs)
 
 add-i : tie.Need-add-i Inv-loop μ-loop
 add-i c = search needs
@@ -31,13 +31,13 @@ loop-less : tie.Need-loop-less Inv-loop μ-loop
 loop-less c = search needs
 
 loop-again : tie.Need-loop-again Inv-loop μ-loop
-loop-again c = (search needs, search needs, search end-later)
+loop-again c = (search needs, search needs, search later)
 
 returns-2 : tie.Need-returns-2 Inv-loop μ-loop
-returns-2 c = (search end-of-text, search needs, search needs)
+returns-2 c = (search nowhere, search needs, search needs)
 
-pub end-spec : {M : Type 1} → statement M
-end-spec =
+pub place-of-spec : {M : Type 1} → statement M
+place-of-spec =
     tie.close
     (tie.spec
     Inv-loop
