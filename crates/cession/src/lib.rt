@@ -3,13 +3,10 @@
 ghost use mathlib.Core.Path.{_≡_};
 ghost use lib.ListN.{length};
 ghost use Rattle.table_text.specs.Read.{readOf};
-ghost use Rattle.table_text.specs.Write.{writeOf, answerOf};
-ghost use Rattle.table_text.specs.Write.{bufferAfter as tableAfter};
+ghost use Rattle.table_text.specs.Write.{writeOf, answerOf as tableAnswer, bufferAfter as tableAfter};
 ghost use Rattle.year.specs.Standing.{openOf};
-ghost use Rattle.year.specs.Run.{runOf, bufferAfter};
-ghost use Rattle.engine.specs.Run.{ranOf};
+ghost use Rattle.year.specs.Run.{runOf, answerOf, standingAfter, bufferAfter};
 use engine::run;
-use engine::run::Ran;
 use programme::Answer;
 use programme::contract::Programme;
 use table_text::Reading;
@@ -27,7 +24,7 @@ pub extern "C" fn cession_read(text: &[u8]) -> Reading
 // Writes a programme's table text into a buffer.
 #[no_mangle]
 pub extern "C" fn cession_write(programme: Programme, buffer: &mut [u8]) -> Answer
-    ensures { λ r. ⌜ (r ≡ answerOf (writeOf programme (length (now (buffer .entry)))))
+    ensures { λ r. ⌜ (r ≡ tableAnswer (writeOf programme (length (now (buffer .entry)))))
         × (now (buffer .exit)
         ≡ tableAfter (writeOf programme (length (now (buffer .entry)))) (now (buffer .entry))) ⌝ }
 {
@@ -42,19 +39,25 @@ pub extern "C" fn cession_open(programme: Programme) -> Opening
     standings::open(programme)
 }
 
-// Runs an events text under a programme, from a standing on.
+// Runs an events text under a programme. The standing is lent, and the new one is left in it.
 #[no_mangle]
 pub extern "C" fn cession_run(
     programme: Programme,
-    standing: Standing,
+    standing: &mut Standing,
     events: &[u8],
     buffer: &mut [u8],
-) -> Ran
-    ensures { λ r. ⌜ (r
-        ≡ ranOf (runOf programme standing (now (events .entry)) (length (now (buffer .entry)))) standing)
-        × (now (buffer .exit)
-        ≡ bufferAfter (runOf programme standing (now (events .entry)) (length (now (buffer .entry))))
+) -> Answer
+    ensures { λ r. ⌜ (r ≡ answerOf
+        (runOf programme (now (standing .entry)) (now (events .entry)) (length (now (buffer .entry)))))
+        × (now (standing .exit) ≡ standingAfter
+        (runOf programme (now (standing .entry)) (now (events .entry)) (length (now (buffer .entry))))
+        (now (standing .entry)))
+        × (now (buffer .exit) ≡ bufferAfter
+        (runOf programme (now (standing .entry)) (now (events .entry)) (length (now (buffer .entry))))
         (now (buffer .entry))) ⌝ }
 {
-    run::run(programme, standing, events, buffer)
+    let lent = *standing;
+    let ran = run::run(programme, lent, events, buffer);
+    *standing = ran.standing;
+    ran.answer
 }

@@ -1,0 +1,1 @@
+// What proofs by hand about lent structs share: definitions and laws alone.
