@@ -6,7 +6,9 @@ ghost use Rattle.table_text.specs.Read.{readOf};
 ghost use Rattle.table_text.specs.Write.{writeOf, answerOf as tableAnswer, bufferAfter as tableAfter};
 ghost use Rattle.year.specs.Standing.{openOf};
 ghost use Rattle.year.specs.Run.{runOf, answerOf, standingAfter, bufferAfter};
+ghost use Rattle.engine.specs.Run.{ranOf};
 use engine::run;
+use engine::run::Ran;
 use programme::Answer;
 use programme::contract::Programme;
 use table_text::Reading;
@@ -60,4 +62,20 @@ pub extern "C" fn cession_run(
     let ran = run::run(programme, lent, events, buffer);
     *standing = ran.standing;
     ran.answer
+}
+
+// The same from a standing by value, for callers that lend none: it is lent here, and comes back beside the answer.
+pub fn run_from(programme: Programme, standing: Standing, events: &[u8], buffer: &mut [u8]) -> Ran
+    ensures { λ r. ⌜ (r
+        ≡ ranOf (runOf programme standing (now (events .entry)) (length (now (buffer .entry)))) standing)
+        × (now (buffer .exit)
+        ≡ bufferAfter (runOf programme standing (now (events .entry)) (length (now (buffer .entry))))
+        (now (buffer .entry))) ⌝ }
+{
+    let mut lent = standing;
+    let answer = cession_run(programme, &mut lent, events, buffer);
+    Ran {
+        answer,
+        standing: lent,
+    }
 }
