@@ -62,7 +62,7 @@ fn run_year(programme: Programme, standing: Standing) {
 // The statement of a run, or its refusal.
 fn run_events(programme: Programme, standing: Standing, events: &[u8]) {
     let mut statement = io::large_buffer();
-    let ran = cession::cession_run(programme, standing, events, &mut statement);
+    let ran = cession::run_from(programme, standing, events, &mut statement);
     let answer = ran.answer;
     if answer.refusal != 0 {
         refuse(answer.refusal, answer.number);
