@@ -6,6 +6,7 @@ use Prim.Native.Nat.{ℕ, _+_, _-_}
 use lib.ListN.{take, drop}
 use Rattle.lists.specs.Sums.{sumOf}
 use Rattle.layer.specs.declared.record.Layer.{Layer}
+use Rattle.layer.specs.declared.record.Sums.{Sums}
 use Rattle.layer.specs.declared.tier.Tier.{Tier}
 use Rattle.layer.specs.declared.tier.TierBorne.{TierBorne}
 use Rattle.layer.specs.Layer.{broughtBy, afterSubject, recoveryBy, chargeBy, sumsOf}
@@ -42,6 +43,10 @@ recoveriesThrough (y ∷ ys) ls = recoveriesBy y ls + recoveriesThrough ys (laye
 abbrev pub chargesThrough : List ℕ → List Layer → ℕ
 chargesThrough [] ls = 0
 chargesThrough (y ∷ ys) ls = chargesBy y ls + chargesThrough ys (layersAfter y ls)
+
+-- sums with both of these added
+abbrev pub sumsThrough : List ℕ → Sums → List Layer → Sums
+sumsThrough ys s ls = sumsOf (s .recovered .0 + recoveriesThrough ys ls) (s .premium .0 + chargesThrough ys ls)
 
 -- what the recoveries leave of the amounts, added
 abbrev pub leftThrough : List ℕ → List Layer → ℕ

@@ -1,7 +1,11 @@
-// The layers of one tier: each looks at the same subject amounts, and none sees another's remainder.
+// The layers of one tier: each looks at the same subject amounts, and none sees another's remainder. They are lent as a
+// list of records, each brought up to date in its place.
 ghost use mathlib.Core.Path.{_≡_};
-ghost use Rattle.layer.specs.Tier.{tierThrough};
-ghost use Rattle.layer.specs.Ranges.{SoundTier};
+ghost use mathlib.Core.List.{_++_};
+ghost use Prim.Native.Nat.{_≤_};
+ghost use lib.ListN.{take, drop};
+ghost use Rattle.layer.specs.Tier.{layersThrough, sumsThrough, tierThrough};
+ghost use Rattle.layer.specs.Ranges.{SoundLayers, AmpleForTier, SoundTier};
 use crate::amount::Placed;
 use crate::record::Layer;
 use crate::record::Sums;
@@ -18,25 +22,64 @@ pub struct TierBorne {
     pub sums: Sums,
 }
 
+// The eight places of a tier and the sums after subject amounts.
+pub struct PlacesBorne {
+    pub layers: [Layer; 8],
+    pub sums: Sums,
+}
+
+// Brings each layer of a lent list up to date in its place: amounts come to it, each in turn the subject, and its
+// recoveries and premiums are added to the sums. Layer by layer, since none looks at another.
+fn bear_all(layers: &mut [Layer], subjects: &[u64], mut sums: Sums) -> Sums
+    requires { ⌜ SoundLayers (now layers) × AmpleForTier sums ⌝ }
+    ensures { λ r. ⌜ (r ≡ sumsThrough (now (subjects .entry)) sums (now (layers .entry)))
+        × (now (layers .exit) ≡ layersThrough (now (subjects .entry)) (now (layers .entry))) ⌝ }
+{
+    let mut i: usize = 0;
+    while i < layers.len() {
+        let borne = layers[i].bear_each(subjects, sums);
+        layers[i] = borne.layer;
+        sums = borne.sums;
+        i = i + 1;
+    }
+    sums
+}
+
+// The same for the first `count` of eight places by value, which are lent here; the others stay.
+fn bear_first(layers: [Layer; 8], count: usize, subjects: &[u64], sums: Sums) -> PlacesBorne
+    requires { ⌜ (count ≤ 8) × SoundLayers (take count layers) × AmpleForTier sums ⌝ }
+    ensures { λ r. ⌜ (r .layers ≡ layersThrough (now (subjects .entry)) (take count layers) ++ drop count layers)
+        × (r .sums ≡ sumsThrough (now (subjects .entry)) sums (take count layers)) ⌝ }
+{
+    let mut lent = layers;
+    let after = bear_all(&mut lent[..count], subjects, sums);
+    PlacesBorne {
+        layers: lent,
+        sums: after,
+    }
+}
+
 impl Tier {
-    // The tier after amounts, each in turn the subject of every layer: layer by layer, since none looks at another.
+    // The tier after amounts, each in turn the subject of every layer.
     pub fn bear(self, subjects: &[u64]) -> TierBorne
         requires { ⌜ SoundTier self ⌝ }
         ensures { λ r. ⌜ r ≡ tierThrough (now (subjects .entry)) self ⌝ }
     {
-        let mut tier = self;
+        let layers = self.layers;
         let count = self.count;
-        let mut sums = Sums {
+        let none = Sums {
             recovered: Placed::none(),
             premium: Placed::none(),
         };
-        for i in 0..count {
-            let layer = tier.layers[i];
-            let borne = layer.bear_each(subjects, sums);
-            let after = borne.layer;
-            tier.layers[i] = after;
-            sums = borne.sums;
+        let borne = bear_first(layers, count, subjects, none);
+        let after = borne.layers;
+        let sums = borne.sums;
+        TierBorne {
+            tier: Tier {
+                layers: after,
+                count,
+            },
+            sums,
         }
-        TierBorne { tier, sums }
     }
 }
