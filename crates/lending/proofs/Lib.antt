@@ -1,3 +1,4 @@
 pub mod Names
 pub mod Local
 pub mod Loop
+pub mod Closing

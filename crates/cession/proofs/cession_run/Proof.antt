@@ -2,20 +2,21 @@
 -- opened, given by value to `engine::run::run`, and closed at the standing that this gives back. All that is known of
 -- that run is its contract.
 -- Assumes nothing.
-use Rattle.lending.proofs.Names.{_≡_, refl, ap, ℕ, [], _∷_, List, length, URA, fullShare, named, Val, vptr}
-use Rattle.lending.proofs.Names.{SProp, ent, emp, via, fst∗, id⊢, Lft, Share, GName, Fml, ftrue, flft, fobs, fbor, fat}
-use Rattle.lending.proofs.Names.{Memory, Routine, Heap, Calls, Loops, WpFn, Tables, Atoms, Fun, fact, givenOf, tables}
-use Rattle.lending.proofs.Names.{tablesOf, Given, Item, ‵, raw, _⊛_, ⋆, some, later, _$_, _∵_, !, qed, by, move, keep}
-use Rattle.lending.proofs.Names.{let-go, use1, use2, split, join, pick, rewrite, fsplit, fsplit3, fjoin, fjoin3, feqL}
-use Rattle.lending.proofs.Names.{feqI, suffices, frame, await, done, look, look-raw, init, store-raw, forget, stop, hop}
-use Rattle.lending.proofs.Names.{fld, from, load, addr, of-opd, and-then, no-more, assigns, land, returns, enter, alloc1}
-use Rattle.lending.proofs.Names.{alloc0, params1, pass1, pass0, free1, free0, agg, whole, sub, look-in, Body, FmC, fmOf}
-use Rattle.lending.proofs.Names.{WpFn-mono, owns, Is, shows, mem, u8, RefT, MutRef, ptr-vals, mut-tells, ShrSlice}
-use Rattle.lending.proofs.Names.{MutSlice, sliceVal, slice-vals, Room, finally, shr-slice-tells, mut-slice-tells}
-use Rattle.lending.proofs.Names.{plain, shrSliceOf, only, opens, closes, owned, facts, heard, nothing, spelt, onEntry}
-use Rattle.lending.proofs.Names.{Meets, tripleOf, Contract, Triple, calls-at, ensured, lasts, entered, cited, says}
-use Rattle.lending.proofs.Names.{Stays, stay-dropped, stay-ref, gave-slice, walkOf, AllGo, goes-dropped, goes-ref}
-use Rattle.lending.proofs.Names.{goes-gave-slice, Walks, ends-at, walked, walk-meets, yes}
+use Rattle.lending.proofs.Names.{_≡_, refl, ap, [], _∷_, List, true, ℕ, length, URA, fullShare, named, Val, vptr}
+use Rattle.lending.proofs.Names.{SProp, ent, id⊢, emp, via, fst∗, Lft, Share, GName, ftrue, flft, fobs, fbor, fat, Fml}
+use Rattle.lending.proofs.Names.{Memory, Routine, Heap, WpFn, Tables, Calls, Loops, Atoms, FmC, fmOf, Fun, fact}
+use Rattle.lending.proofs.Names.{givenOf, tables, tablesOf, Given, Item, ‵, raw, _⊛_, ⋆, some, later, _$_, _∵_, !, qed}
+use Rattle.lending.proofs.Names.{by, done, move, keep, let-go, use1, use2, split, join, pick, rewrite, suffices, frame}
+use Rattle.lending.proofs.Names.{await, fsplit, fsplit3, fjoin, fjoin3, feqL, feqI, look, look-raw, init, store-raw}
+use Rattle.lending.proofs.Names.{forget, stop, hop, fld, from, load, of-opd, addr, and-then, no-more, assigns, land}
+use Rattle.lending.proofs.Names.{returns, enter, alloc1, alloc0, params1, pass1, pass0, free1, free0, whole, sub}
+use Rattle.lending.proofs.Names.{look-in, agg, Body, owns, Is, shows, mem, u8, RefT, MutRef, ptr-vals, mut-tells}
+use Rattle.lending.proofs.Names.{MutSlice, ShrSlice, sliceVal, slice-vals, Room, finally, mut-slice-tells}
+use Rattle.lending.proofs.Names.{shr-slice-tells, spelt, only, owned, facts, heard, nothing, opens, closes, plain}
+use Rattle.lending.proofs.Names.{shrSliceOf, yes, onEntry, tripleOf, Contract, Triple, calls-at, ensured, lasts, cited}
+use Rattle.lending.proofs.Names.{says, Stays, stay-dropped, stay-ref, gave-slice, walkOf, Walks, ends-at, walked}
+use Rattle.lending.proofs.Names.{AllGo, goes-dropped, goes-ref, goes-gave-slice}
+use Rattle.lending.proofs.Closing.{followed}
 use denote.Struct.Laws as LL
 use Rattle.programme.specs.declared.contract.Programme.{Programme}
 use Rattle.programme.proofs.contract.Programme as P
@@ -65,9 +66,9 @@ standing-of : (r : Ran) (w : Val) → Is R.the-row r (w ∷ []) → Is S.the-row
 standing-of r w g = LL.owed R.the-type R′.the-laws r _ g .1 .0
 
 -- the contract of the run by value
-abbrev Runs : {M : Type 1} (𝓤 : URA M) (H : Heap 𝓤) (A : Atoms 𝓤) (mem : Memory → SProp 𝓤)
+abbrev Runs : {M : Type 1} (𝓤 : URA M) (H : Heap 𝓤) (A : Atoms 𝓤) (at-mem : Memory → SProp 𝓤)
     (exec : Routine → Fun 𝓤) → Contract 𝓤
-Runs 𝓤 H A mem exec = tripleOf 𝓤 H A by-value.signature (by-value.spec 𝓤 H A mem exec)
+Runs 𝓤 H A at-mem exec = tripleOf 𝓤 H A by-value.signature (by-value.spec 𝓤 H A at-mem exec)
 
 module _ {M : Type 1} (𝓤 : URA M) (H : Heap 𝓤) (A : Atoms 𝓤) (W : Given 𝓤 H A) (at-mem : Memory → SProp 𝓤)
     (exec : Routine → Fun 𝓤) (κ κ₁ κ₂ : Lft) (q q₁ q₂ : Share) (p : Programme) (b o : ℕ) (γ : GName) (h : Standing)
@@ -237,11 +238,10 @@ module _ {M : Type 1} (𝓤 : URA M) (H : Heap 𝓤) (A : Atoms 𝓤) (W : Given
 
 module _ {M : Type 1} (𝓤 : URA M) (H : Heap 𝓤) (A : Atoms 𝓤) (W : Given 𝓤 H A) (at-mem : Memory → SProp 𝓤)
     (exec : Routine → Fun 𝓤) where
-  run-walks : (C : Calls 𝓤 H) (Λ : Loops 𝓤 H) → FmC 𝓤 H (W .laws) C
-      → Triple 𝓤 (C #engine·run) (Runs 𝓤 H A at-mem exec)
-      → Walks 𝓤 H A run.ended stayed (WpFn 𝓤 H C Λ code.function) (run.clauses 𝓤 H A at-mem exec)
-  run-walks C Λ fm known =
-      walked 𝓤 H A run.ended stayed (run.clauses 𝓤 H A at-mem exec) (WpFn 𝓤 H C Λ code.function)
+  run-walks : (𝓣 : Tables 𝓤 H) → Triple 𝓤 (𝓣 .C #engine·run) (Runs 𝓤 H A at-mem exec)
+      → Walks 𝓤 H A run.ended stayed (WpFn 𝓤 H (𝓣 .C) (𝓣 .Λ) code.function) (run.clauses 𝓤 H A at-mem exec)
+  run-walks 𝓣 known =
+      walked 𝓤 H A run.ended stayed (run.clauses 𝓤 H A at-mem exec) (WpFn 𝓤 H (𝓣 .C) (𝓣 .Λ) code.function)
       (λ κs. (programme-vals, (ptr-vals, (slice-vals, (slice-vals, tt)))))
       (λ κs. (
         LL.tells P.the-type P′.the-laws,
@@ -252,9 +252,10 @@ module _ {M : Type 1} (𝓤 : URA M) (H : Heap 𝓤) (A : Atoms 𝓤) (W : Given
       ))
       (λ κs qs bounds a _ are. via 𝓤 _ (fst∗ 𝓤 _ (emp 𝓤))
       (walk 𝓤 H A W at-mem exec (κs .0) (κs .1 .0) (κs .1 .1 .0) (qs .0) (qs .1 .0) (qs .1 .1 .0) (a .0)
-      (a .1 .0 .ptr .0) (a .1 .0 .ptr .1) (a .1 .0 .name) (a .1 .0 .now) (a .1 .1 .0) (a .1 .1 .1 .0) C Λ fm known
-      (are .0) (are .1 .1 .0 .0 .1) (are .1 .1 .1 .0 .0 .1)))
+      (a .1 .0 .ptr .0) (a .1 .0 .ptr .1) (a .1 .0 .name) (a .1 .0 .now) (a .1 .1 .0) (a .1 .1 .1 .0)
+      (𝓣 .C) (𝓣 .Λ) (fmOf 𝓤 H (W .laws) 𝓣) known (are .0) (are .1 .1 .0 .0 .1) (are .1 .1 .1 .0 .0 .1)))
 
+module _ {M : Type 1} (𝓤 : URA M) (H : Heap 𝓤) (A : Atoms 𝓤) (W : Given 𝓤 H A) where
   goes : AllGo 𝓤 H A W 3 (run.signature .params) (run.ended .kept) stayed
   goes = (
     goes-dropped 𝓤 H A W 3 (plain (λ _. P.the-row)) yes (λ κs x f. refl),
@@ -267,20 +268,11 @@ module _ {M : Type 1} (𝓤 : URA M) (H : Heap 𝓤) (A : Atoms 𝓤) (W : Given
     ),
   )
 
-run-meets : {M : Type 1} (𝓤 : URA M) (H : Heap 𝓤) (A : Atoms 𝓤) → Given 𝓤 H A → (at-mem : Memory → SProp 𝓤)
-    (exec : Routine → Fun 𝓤) (𝓣 : Tables 𝓤 H) → Triple 𝓤 (𝓣 .C #engine·run) (Runs 𝓤 H A at-mem exec)
-    → Meets 𝓤 H A run.signature (WpFn 𝓤 H (𝓣 .C) (𝓣 .Λ) code.function) (run.spec 𝓤 H A at-mem exec)
-run-meets 𝓤 H A W at-mem exec 𝓣 known =
-    walk-meets 𝓤 H A run.ended stayed W (goes 𝓤 H A W at-mem exec) (run.clauses 𝓤 H A at-mem exec)
-    (WpFn 𝓤 H (𝓣 .C) (𝓣 .Λ) code.function) (WpFn-mono 𝓤 H (W .laws) 𝓣 code.function)
-    (run-walks 𝓤 H A W at-mem exec (𝓣 .C) (𝓣 .Λ) (fmOf 𝓤 H (W .laws) 𝓣) known)
-
 pub cession-run-spec : {M : Type 1} → stated.statement M
 unfolding code.routine tablesOf
 cession-run-spec 𝓤 H 𝓜 𝓖 𝓡 =
-    entered 𝓤 H (tripleOf 𝓤 H (𝓖 .A) run.signature (run.spec 𝓤 H (𝓖 .A) (𝓜 .mem) (𝓡 .run)))
-    (tables 𝓤 H 𝓜 𝓡 code.env .C) (tables 𝓤 H 𝓜 𝓡 code.env .Λ) #cession·run code.function
-    (code.unfolded 𝓤 H 𝓜 𝓡)
-    (run-meets 𝓤 H (𝓖 .A) (givenOf 𝓤 H 𝓜 𝓖) (𝓜 .mem) (𝓡 .run) (tablesOf 𝓤 H 𝓜 (tables 𝓤 H 𝓜 𝓡 code.env))
+    followed 𝓤 H 𝓜 𝓖 𝓡 code.env run.ended stayed (goes 𝓤 H (𝓖 .A) (givenOf 𝓤 H 𝓜 𝓖)) #cession·run code.function
+    (code.unfolded 𝓤 H 𝓜 𝓡) (run.clauses 𝓤 H (𝓖 .A) (𝓜 .mem) (𝓡 .run))
+    (run-walks 𝓤 H (𝓖 .A) (givenOf 𝓤 H 𝓜 𝓖) (𝓜 .mem) (𝓡 .run) (tablesOf 𝓤 H 𝓜 (tables 𝓤 H 𝓜 𝓡 code.env))
     (cited 𝓤 H (Runs 𝓤 H (𝓖 .A) (𝓜 .mem) (𝓡 .run)) 𝓜 𝓡 code.env #engine·run by-value-def.routine
     code.calls-engine·run·run (by-value-thm.met 𝓤 H 𝓜 𝓖 𝓡)))

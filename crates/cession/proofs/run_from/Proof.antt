@@ -2,19 +2,20 @@
 -- local, which is lent to `cession_run` for a lifetime made for the call and comes back at the standing that its
 -- contract says.
 -- Assumes nothing.
-use Rattle.lending.proofs.Names.{_≡_, refl, ap, ℕ, [], _∷_, List, length, URA, fullShare, named, Val, vptr}
-use Rattle.lending.proofs.Names.{SProp, ent, emp, via, fst∗, id⊢, Lft, Share, GName, Fml, ftrue, flft, flent, fat}
-use Rattle.lending.proofs.Names.{Memory, Routine, Heap, Calls, Loops, WpFn, Tables, Atoms, Fun, fact, givenOf, tables}
-use Rattle.lending.proofs.Names.{tablesOf, Given, Item, ‵, raw, given, _⊛_, ⋆, some, later, _$_, _∵_, !, qed, by, move}
-use Rattle.lending.proofs.Names.{keep, let-go, use1, use3, split, join, pick, learn, rewrite, fsplit, fjoin, feqL}
-use Rattle.lending.proofs.Names.{suffices, frame, await, done, look, init, forget, stop, hop, fld, from, load, addr}
-use Rattle.lending.proofs.Names.{of-opd, and-then, no-more, assigns, land, returns, enter, alloc1, alloc0, params1}
-use Rattle.lending.proofs.Names.{pass1, pass0, free1, free0, agg, whole, sub, look-in, Body, lft-new, lft-end, FmC, fmOf}
-use Rattle.lending.proofs.Names.{WpFn-mono, owns, Is, shows, mem, u8, RefT, MutRef, ShrSlice, MutSlice, sliceVal}
-use Rattle.lending.proofs.Names.{slice-vals, Room, finally, shr-slice-tells, mut-slice-tells, lends-ref, ref-back, plain}
-use Rattle.lending.proofs.Names.{shrSliceOf, only, owned, facts, heard, nothing, onEntry, Meets, tripleOf, Contract}
-use Rattle.lending.proofs.Names.{Triple, calls-at, ensured, lasts, entered, cited, says, Stays, stay-dropped, gave-slice}
-use Rattle.lending.proofs.Names.{walkOf, AllGo, goes-dropped, goes-gave-slice, Walks, ends-at, walked, walk-meets, yes}
+use Rattle.lending.proofs.Names.{_≡_, refl, ap, [], _∷_, List, true, ℕ, length, URA, fullShare, named, Val, vptr}
+use Rattle.lending.proofs.Names.{SProp, ent, id⊢, emp, via, fst∗, Lft, Share, GName, ftrue, flft, fat, Fml, flent}
+use Rattle.lending.proofs.Names.{Memory, Routine, Heap, WpFn, Tables, Calls, Loops, Atoms, FmC, fmOf, Fun, fact}
+use Rattle.lending.proofs.Names.{givenOf, tables, tablesOf, Given, Item, ‵, raw, _⊛_, ⋆, some, later, given, _$_, _∵_}
+use Rattle.lending.proofs.Names.{ !, qed, by, done, move, keep, let-go, use1, use3, split, join, pick, learn, rewrite}
+use Rattle.lending.proofs.Names.{suffices, frame, await, fsplit, fjoin, feqL, look, init, forget, stop, hop, fld, from}
+use Rattle.lending.proofs.Names.{load, of-opd, addr, and-then, no-more, assigns, land, returns, enter, alloc1, alloc0}
+use Rattle.lending.proofs.Names.{params1, pass1, pass0, free1, free0, whole, sub, look-in, agg, Body, lft-new, lft-end}
+use Rattle.lending.proofs.Names.{owns, Is, shows, mem, u8, RefT, MutRef, MutSlice, ShrSlice, sliceVal, slice-vals}
+use Rattle.lending.proofs.Names.{Room, finally, mut-slice-tells, shr-slice-tells, lends-ref, ref-back, only, owned}
+use Rattle.lending.proofs.Names.{facts, heard, nothing, plain, shrSliceOf, yes, onEntry, tripleOf, Contract, Triple}
+use Rattle.lending.proofs.Names.{calls-at, ensured, lasts, cited, says, Stays, stay-dropped, gave-slice, walkOf, Walks}
+use Rattle.lending.proofs.Names.{ends-at, walked, AllGo, goes-dropped, goes-gave-slice}
+use Rattle.lending.proofs.Closing.{followed}
 use Rattle.lending.proofs.Local.{struct-laid, struct-back}
 use denote.Struct.Laws as LL
 use Rattle.programme.specs.declared.contract.Programme.{Programme}
@@ -60,9 +61,9 @@ abbrev ran-vals : Ran → List Val
 ran-vals = LL.vals R.the-type R′.the-laws
 
 -- the contract of the run that is lent a standing
-abbrev Runs : {M : Type 1} (𝓤 : URA M) (H : Heap 𝓤) (A : Atoms 𝓤) (mem : Memory → SProp 𝓤)
+abbrev Runs : {M : Type 1} (𝓤 : URA M) (H : Heap 𝓤) (A : Atoms 𝓤) (at-mem : Memory → SProp 𝓤)
     (exec : Routine → Fun 𝓤) → Contract 𝓤
-Runs 𝓤 H A mem exec = tripleOf 𝓤 H A run.signature (run.spec 𝓤 H A mem exec)
+Runs 𝓤 H A at-mem exec = tripleOf 𝓤 H A run.signature (run.spec 𝓤 H A at-mem exec)
 
 -- what is given back: an answer and a standing
 abbrev ran : Answer → Standing → Ran
@@ -252,11 +253,12 @@ module _ {M : Type 1} (𝓤 : URA M) (H : Heap 𝓤) (A : Atoms 𝓤) (W : Given
 
 module _ {M : Type 1} (𝓤 : URA M) (H : Heap 𝓤) (A : Atoms 𝓤) (W : Given 𝓤 H A) (at-mem : Memory → SProp 𝓤)
     (exec : Routine → Fun 𝓤) where
-  run-from-walks : (C : Calls 𝓤 H) (Λ : Loops 𝓤 H) → FmC 𝓤 H (W .laws) C
-      → Triple 𝓤 (C #cession·run) (Runs 𝓤 H A at-mem exec)
-      → Walks 𝓤 H A run-from.ended stayed (WpFn 𝓤 H C Λ code.function) (run-from.clauses 𝓤 H A at-mem exec)
-  run-from-walks C Λ fm known =
-      walked 𝓤 H A run-from.ended stayed (run-from.clauses 𝓤 H A at-mem exec) (WpFn 𝓤 H C Λ code.function)
+  run-from-walks : (𝓣 : Tables 𝓤 H) → Triple 𝓤 (𝓣 .C #cession·run) (Runs 𝓤 H A at-mem exec)
+      → Walks 𝓤 H A run-from.ended stayed (WpFn 𝓤 H (𝓣 .C) (𝓣 .Λ) code.function)
+      (run-from.clauses 𝓤 H A at-mem exec)
+  run-from-walks 𝓣 known =
+      walked 𝓤 H A run-from.ended stayed (run-from.clauses 𝓤 H A at-mem exec)
+      (WpFn 𝓤 H (𝓣 .C) (𝓣 .Λ) code.function)
       (λ κs. (programme-vals, (standing-vals, (slice-vals, (slice-vals, tt)))))
       (λ κs. (
         LL.tells P.the-type P′.the-laws,
@@ -267,8 +269,9 @@ module _ {M : Type 1} (𝓤 : URA M) (H : Heap 𝓤) (A : Atoms 𝓤) (W : Given
       ))
       (λ κs qs bounds a _ are. via 𝓤 _ (fst∗ 𝓤 _ (emp 𝓤))
       (walk 𝓤 H A W at-mem exec (κs .0) (κs .1 .0) (qs .0) (qs .1 .0) (a .0) (a .1 .0) (a .1 .1 .0) (a .1 .1 .1 .0)
-      (are .0) (are .1 .0) C Λ fm known (are .1 .1 .0 .0 .1) (are .1 .1 .1 .0 .0 .1)))
+      (are .0) (are .1 .0) (𝓣 .C) (𝓣 .Λ) (fmOf 𝓤 H (W .laws) 𝓣) known (are .1 .1 .0 .0 .1) (are .1 .1 .1 .0 .0 .1)))
 
+module _ {M : Type 1} (𝓤 : URA M) (H : Heap 𝓤) (A : Atoms 𝓤) (W : Given 𝓤 H A) where
   goes : AllGo 𝓤 H A W 2 (run-from.signature .params) (run-from.ended .kept) stayed
   goes = (
     goes-dropped 𝓤 H A W 2 (plain (λ _. P.the-row)) yes (λ κs x f. refl),
@@ -281,20 +284,11 @@ module _ {M : Type 1} (𝓤 : URA M) (H : Heap 𝓤) (A : Atoms 𝓤) (W : Given
     ),
   )
 
-run-from-meets : {M : Type 1} (𝓤 : URA M) (H : Heap 𝓤) (A : Atoms 𝓤) → Given 𝓤 H A → (at-mem : Memory → SProp 𝓤)
-    (exec : Routine → Fun 𝓤) (𝓣 : Tables 𝓤 H) → Triple 𝓤 (𝓣 .C #cession·run) (Runs 𝓤 H A at-mem exec)
-    → Meets 𝓤 H A run-from.signature (WpFn 𝓤 H (𝓣 .C) (𝓣 .Λ) code.function) (run-from.spec 𝓤 H A at-mem exec)
-run-from-meets 𝓤 H A W at-mem exec 𝓣 known =
-    walk-meets 𝓤 H A run-from.ended stayed W (goes 𝓤 H A W at-mem exec) (run-from.clauses 𝓤 H A at-mem exec)
-    (WpFn 𝓤 H (𝓣 .C) (𝓣 .Λ) code.function) (WpFn-mono 𝓤 H (W .laws) 𝓣 code.function)
-    (run-from-walks 𝓤 H A W at-mem exec (𝓣 .C) (𝓣 .Λ) (fmOf 𝓤 H (W .laws) 𝓣) known)
-
 pub run-from-spec : {M : Type 1} → stated.statement M
 unfolding code.routine tablesOf
 run-from-spec 𝓤 H 𝓜 𝓖 𝓡 =
-    entered 𝓤 H (tripleOf 𝓤 H (𝓖 .A) run-from.signature (run-from.spec 𝓤 H (𝓖 .A) (𝓜 .mem) (𝓡 .run)))
-    (tables 𝓤 H 𝓜 𝓡 code.env .C) (tables 𝓤 H 𝓜 𝓡 code.env .Λ) #cession·run-from code.function
-    (code.unfolded 𝓤 H 𝓜 𝓡)
-    (run-from-meets 𝓤 H (𝓖 .A) (givenOf 𝓤 H 𝓜 𝓖) (𝓜 .mem) (𝓡 .run) (tablesOf 𝓤 H 𝓜 (tables 𝓤 H 𝓜 𝓡 code.env))
+    followed 𝓤 H 𝓜 𝓖 𝓡 code.env run-from.ended stayed (goes 𝓤 H (𝓖 .A) (givenOf 𝓤 H 𝓜 𝓖)) #cession·run-from code.function
+    (code.unfolded 𝓤 H 𝓜 𝓡) (run-from.clauses 𝓤 H (𝓖 .A) (𝓜 .mem) (𝓡 .run))
+    (run-from-walks 𝓤 H (𝓖 .A) (givenOf 𝓤 H 𝓜 𝓖) (𝓜 .mem) (𝓡 .run) (tablesOf 𝓤 H 𝓜 (tables 𝓤 H 𝓜 𝓡 code.env))
     (cited 𝓤 H (Runs 𝓤 H (𝓖 .A) (𝓜 .mem) (𝓡 .run)) 𝓜 𝓡 code.env #cession·run run-def.routine
     code.calls-cession·cession-run (run-thm.met 𝓤 H 𝓜 𝓖 𝓡)))

@@ -2,24 +2,25 @@
 -- list is opened before the loop and closed after it; in between the row of the layers is the function's own. All that
 -- is known of `bear_each` is its contract, and a turn of the loop is `one-passed`.
 -- Assumes nothing.
-use Rattle.lending.proofs.Names.{_≡_, refl, sym, _∙_, ap, subst, ℕ, _+_, _-_, _*_, _≤_, _<_, _^_, arith, Bool, true}
-use Rattle.lending.proofs.Names.{false, [], _∷_, List, WellFounded, InvImage·wf, ltb, lit<, length, getD, set}
+use Rattle.lending.proofs.Names.{_≡_, refl, sym, _∙_, ap, subst, [], _∷_, List, Bool, true, false, WellFounded}
+use Rattle.lending.proofs.Names.{InvImage·wf, ℕ, _+_, _-_, _*_, _≤_, _<_, _^_, arith, ltb, lit<, length, getD, set}
 use Rattle.lending.proofs.Names.{Nat·lt-wfRel, ltb-true, ltb-false, URA, fullShare, Ty, named, mut, imm, w64, tyInt}
 use Rattle.lending.proofs.Names.{tyBool, tyPtr, tyRef, Val, vint, vptr, vbool, SProp, ent, id⊢, exE, snd∗, Lft, Share}
-use Rattle.lending.proofs.Names.{GName, Fml, ftrue, flft, fobs, fauth, fbor, fobor, fat, froom, fdies, Memory, Routine}
-use Rattle.lending.proofs.Names.{Heap, WpFn, Tables, afterTurn, Atoms, sem, Fun, fact, givenOf, tables, tablesOf, Given}
-use Rattle.lending.proofs.Names.{Item, ‵, raw, _⊛_, ⋆, some, later, _$_, _∵_, !, qed, by, move, let-go, use1, use2}
-use Rattle.lending.proofs.Names.{split, join, pick, rewrite, fsplit, fjoin, suffices, frame, await, done, look, look-raw}
-use Rattle.lending.proofs.Names.{init, store, store-raw, forget, stop, hop, fld, from, load, lit, of-opd, bin, and-then}
-use Rattle.lending.proofs.Names.{no-more, assigns, assigns-last, land, stays, leaves-loop, again, returns, enter, alloc1}
-use Rattle.lending.proofs.Names.{alloc0, params1, pass1, pass0, free1, free0, whole, sub, look-in, FmC, fmOf, WpFn-mono}
-use Rattle.lending.proofs.Names.{owns, pureI, Is, shows, pointee, u64, RefT, MutSlice, ShrSlice, sliceTy, sliceVal}
-use Rattle.lending.proofs.Names.{slice-vals, Room, heres, codedHoleys, at-slice, mut-slice-tells, shr-slice-tells}
-use Rattle.lending.proofs.Names.{shr-slice-copy, Held, row, place-is, elem-out, elem-put, opens-slice, closes-slice}
-use Rattle.lending.proofs.Names.{plain, shrSliceOf, only, owned, facts, heard, nothing, onEntry, Meets, tripleOf}
-use Rattle.lending.proofs.Names.{Contract, Triple, calls-at, ensured, lasts, entered, cited, says, needs, Stays}
-use Rattle.lending.proofs.Names.{stay-dropped, stay-slice, walkOf, goes-dropped, goes-slice, Walks, ends-at, walked}
-use Rattle.lending.proofs.Names.{walk-meets, yes}
+use Rattle.lending.proofs.Names.{GName, ftrue, flft, fobs, fauth, fbor, fobor, fat, froom, fdies, Fml, Memory, Routine}
+use Rattle.lending.proofs.Names.{Heap, WpFn, Tables, afterTurn, Atoms, sem, FmC, fmOf, Fun, fact, givenOf, tables}
+use Rattle.lending.proofs.Names.{tablesOf, Given, Item, ‵, raw, _⊛_, ⋆, some, later, _$_, _∵_, !, qed, by, done, move}
+use Rattle.lending.proofs.Names.{let-go, use1, use2, split, join, pick, rewrite, suffices, frame, await, fsplit, fjoin}
+use Rattle.lending.proofs.Names.{look, look-raw, init, store, store-raw, forget, stop, hop, fld, from, load, lit}
+use Rattle.lending.proofs.Names.{of-opd, bin, and-then, no-more, assigns, assigns-last, land, stays, leaves-loop}
+use Rattle.lending.proofs.Names.{again, returns, enter, alloc1, alloc0, params1, pass1, pass0, free1, free0, whole}
+use Rattle.lending.proofs.Names.{sub, look-in, owns, pureI, Is, shows, pointee, u64, RefT, MutSlice, ShrSlice}
+use Rattle.lending.proofs.Names.{sliceTy, sliceVal, slice-vals, Room, heres, codedHoleys, at-slice, mut-slice-tells}
+use Rattle.lending.proofs.Names.{shr-slice-tells, shr-slice-copy, Held, row, place-is, elem-out, elem-put, opens-slice}
+use Rattle.lending.proofs.Names.{closes-slice, only, owned, facts, heard, nothing, plain, shrSliceOf, yes, onEntry}
+use Rattle.lending.proofs.Names.{tripleOf, Contract, Triple, calls-at, ensured, lasts, cited, says, needs, Stays}
+use Rattle.lending.proofs.Names.{stay-dropped, stay-slice, walkOf, Walks, ends-at, walked, AllGo, goes-dropped}
+use Rattle.lending.proofs.Names.{goes-slice}
+use Rattle.lending.proofs.Closing.{followed}
 use Rattle.lending.proofs.Loop.{whiles, out}
 use denote.Struct.Laws as LL
 use Rattle.layer.specs.Layer.{termsOf, layerOf, borneThrough}
@@ -80,9 +81,9 @@ sums-of : (r : Borne) (w : Val) → Is B.the-row r (w ∷ []) → Is Z.the-row (
 sums-of r w g = LL.owed B.the-type B′.the-laws r _ g .1 .0
 
 -- the contract of the step over one layer
-abbrev Bears : {M : Type 1} (𝓤 : URA M) (H : Heap 𝓤) (A : Atoms 𝓤) (mem : Memory → SProp 𝓤)
+abbrev Bears : {M : Type 1} (𝓤 : URA M) (H : Heap 𝓤) (A : Atoms 𝓤) (at-mem : Memory → SProp 𝓤)
     (exec : Routine → Fun 𝓤) → Contract 𝓤
-Bears 𝓤 H A mem exec = tripleOf 𝓤 H A each.signature (each.spec 𝓤 H A mem exec)
+Bears 𝓤 H A at-mem exec = tripleOf 𝓤 H A each.signature (each.spec 𝓤 H A at-mem exec)
 
 -- a test, by cases
 on-test : {X : Type 1} (t : Bool) → (t ≡ true → X) → (t ≡ false → X) → X
@@ -408,26 +409,21 @@ module _ {M : Type 1} (𝓤 : URA M) (H : Heap 𝓤) (A : Atoms 𝓤) (W : Given
       (a .0 .now) (a .1 .0) (a .1 .1 .0) (are .0 .0 .1) 𝓣 (fmOf 𝓤 H (W .laws) 𝓣) known (are .1 .0 .0 .1)
       (are .1 .1 .0) (asked .0) (asked .1)))
 
-all-meets : {M : Type 1} (𝓤 : URA M) (H : Heap 𝓤) (A : Atoms 𝓤) → Given 𝓤 H A → (at-mem : Memory → SProp 𝓤)
-    (exec : Routine → Fun 𝓤) (𝓣 : Tables 𝓤 H) → Triple 𝓤 (𝓣 .C #layer·bear-each) (Bears 𝓤 H A at-mem exec)
-    → Meets 𝓤 H A all.signature (WpFn 𝓤 H (𝓣 .C) (𝓣 .Λ) code.function) (all.spec 𝓤 H A at-mem exec)
-all-meets 𝓤 H A W at-mem exec 𝓣 known =
-    walk-meets 𝓤 H A all.ended stayed W (
-      goes-slice 𝓤 H A W 2 0 tt (plain (λ _. L.the-row)),
-      (
-        goes-dropped 𝓤 H A W 2 (shrSliceOf (1 ∷ []) tt (plain (λ _. u64))) yes (λ κs x f. refl),
-        (goes-dropped 𝓤 H A W 2 (plain (λ _. Z.the-row)) yes (λ κs x f. refl), tt),
-      ),
-    )
-    (all.clauses 𝓤 H A at-mem exec) (WpFn 𝓤 H (𝓣 .C) (𝓣 .Λ) code.function)
-    (WpFn-mono 𝓤 H (W .laws) 𝓣 code.function) (all-walks 𝓤 H A W at-mem exec 𝓣 known)
+module _ {M : Type 1} (𝓤 : URA M) (H : Heap 𝓤) (A : Atoms 𝓤) (W : Given 𝓤 H A) where
+  goes : AllGo 𝓤 H A W 2 (all.signature .params) (all.ended .kept) stayed
+  goes = (
+    goes-slice 𝓤 H A W 2 0 tt (plain (λ _. L.the-row)),
+    (
+      goes-dropped 𝓤 H A W 2 (shrSliceOf (1 ∷ []) tt (plain (λ _. u64))) yes (λ κs x f. refl),
+      (goes-dropped 𝓤 H A W 2 (plain (λ _. Z.the-row)) yes (λ κs x f. refl), tt),
+    ),
+  )
 
 pub bear-all-spec : {M : Type 1} → stated.statement M
 unfolding code.routine tablesOf
 bear-all-spec 𝓤 H 𝓜 𝓖 𝓡 =
-    entered 𝓤 H (tripleOf 𝓤 H (𝓖 .A) all.signature (all.spec 𝓤 H (𝓖 .A) (𝓜 .mem) (𝓡 .run)))
-    (tables 𝓤 H 𝓜 𝓡 code.env .C) (tables 𝓤 H 𝓜 𝓡 code.env .Λ) #layer·bear-all code.function
-    (code.unfolded 𝓤 H 𝓜 𝓡)
-    (all-meets 𝓤 H (𝓖 .A) (givenOf 𝓤 H 𝓜 𝓖) (𝓜 .mem) (𝓡 .run) (tablesOf 𝓤 H 𝓜 (tables 𝓤 H 𝓜 𝓡 code.env))
+    followed 𝓤 H 𝓜 𝓖 𝓡 code.env all.ended stayed (goes 𝓤 H (𝓖 .A) (givenOf 𝓤 H 𝓜 𝓖)) #layer·bear-all code.function
+    (code.unfolded 𝓤 H 𝓜 𝓡) (all.clauses 𝓤 H (𝓖 .A) (𝓜 .mem) (𝓡 .run))
+    (all-walks 𝓤 H (𝓖 .A) (givenOf 𝓤 H 𝓜 𝓖) (𝓜 .mem) (𝓡 .run) (tablesOf 𝓤 H 𝓜 (tables 𝓤 H 𝓜 𝓡 code.env))
     (cited 𝓤 H (Bears 𝓤 H (𝓖 .A) (𝓜 .mem) (𝓡 .run)) 𝓜 𝓡 code.env #layer·bear-each each-def.routine
     code.calls-layer·record·Layer·bear-each (each-thm.met 𝓤 H 𝓜 𝓖 𝓡)))

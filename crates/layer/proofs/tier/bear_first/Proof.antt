@@ -2,22 +2,23 @@
 -- lie in a local, of which the first ones are lent to `bear_all` for a lifetime made for the call, and come back at the
 -- layers that its contract says.
 -- Assumes nothing.
-use Rattle.lending.proofs.Names.{_≡_, refl, sym, _∙_, ap, subst, ℕ, _+_, _*_, _≤_, _<_, _^_, min, arith, [], _∷_, List}
-use Rattle.lending.proofs.Names.{_++_, take, drop, length, length-take, length-append, take-append-drop, URA, fullShare}
-use Rattle.lending.proofs.Names.{named, erased, mut, w64, tyInt, tyRef, Val, vint, vstruct, vcons, vnil, SProp, ent}
-use Rattle.lending.proofs.Names.{id⊢, Lft, Share, GName, Fml, ftrue, flft, flent, fat, Memory, Routine, Heap, Calls}
-use Rattle.lending.proofs.Names.{Loops, WpFn, Tables, Atoms, Fun, fact, givenOf, tables, tablesOf, Given, Item, ‵, raw}
-use Rattle.lending.proofs.Names.{given, _⊛_, ⋆, some, later, _$_, _∵_, !, qed, by, move, let-go, keep, use1, use2, use3}
-use Rattle.lending.proofs.Names.{split, join, pick, learn, rewrite, fsplit, fjoin, feqL, suffices, frame, await, done}
-use Rattle.lending.proofs.Names.{look, init, forget, stop, from, load, addr, of-opd, and-then, no-more, assigns, land}
-use Rattle.lending.proofs.Names.{returns, enter, alloc1, alloc0, params1, pass1, pass0, free1, free0, agg, cells, Arr}
-use Rattle.lending.proofs.Names.{lft-new, lft-end, FmC, fmOf, WpFn-mono, owns, Is, shows, Lawful, mem, pointee}
-use Rattle.lending.proofs.Names.{uint-vals}
-use Rattle.lending.proofs.Names.{uint-tells, u64, usize, ArrayOf, RefT, Array, array-lawful, array-tells, MutSlice}
-use Rattle.lending.proofs.Names.{ShrSlice, sliceTy, sliceVal, slice-vals, shr-slice-tells, Room, Held, lends-slice}
-use Rattle.lending.proofs.Names.{slice-back, row, plain, shrSliceOf, only, owned, facts, heard, nothing, onEntry, Meets}
-use Rattle.lending.proofs.Names.{tripleOf, Contract, Triple, calls-at, ensured, lasts, entered, cited, says, needs}
-use Rattle.lending.proofs.Names.{Stays, stay-dropped, walkOf, goes-dropped, Walks, ends-at, walked, walk-meets, yes}
+use Rattle.lending.proofs.Names.{_≡_, refl, sym, _∙_, ap, subst, [], _∷_, List, _++_, true, ℕ, _+_, _*_, _≤_, _<_, _^_}
+use Rattle.lending.proofs.Names.{min, arith, length, take, drop, length-take, length-append, take-append-drop, URA}
+use Rattle.lending.proofs.Names.{fullShare, named, mut, w64, tyRef, erased, Val, vint, vstruct, vcons, vnil, SProp}
+use Rattle.lending.proofs.Names.{ent, id⊢, Lft, Share, GName, ftrue, flft, fat, Fml, flent, Memory, Routine, Heap}
+use Rattle.lending.proofs.Names.{WpFn, Tables, Calls, Loops, Atoms, FmC, fmOf, Fun, fact, givenOf, tables, tablesOf}
+use Rattle.lending.proofs.Names.{Given, Item, ‵, raw, _⊛_, ⋆, some, later, given, _$_, _∵_, !, qed, by, done, move}
+use Rattle.lending.proofs.Names.{keep, let-go, use1, use2, use3, split, join, pick, learn, rewrite, suffices, frame}
+use Rattle.lending.proofs.Names.{await, fsplit, fjoin, feqL, look, init, forget, stop, from, load, of-opd, addr}
+use Rattle.lending.proofs.Names.{and-then, no-more, assigns, land, again, returns, enter, alloc1, alloc0, params1}
+use Rattle.lending.proofs.Names.{pass1, pass0, free1, free0, agg, cells, Arr, lft-new, lft-end, owns, Is, shows}
+use Rattle.lending.proofs.Names.{Lawful, pointee, mem, uint-vals, uint-tells, u64, usize, ArrayOf, Array, array-lawful}
+use Rattle.lending.proofs.Names.{array-tells, RefT, MutSlice, ShrSlice, sliceTy, sliceVal, slice-vals, Room}
+use Rattle.lending.proofs.Names.{shr-slice-tells, Held, lends-slice, slice-back, row, only, owned, facts, heard}
+use Rattle.lending.proofs.Names.{nothing, plain, shrSliceOf, yes, onEntry, tripleOf, Contract, Triple, calls-at}
+use Rattle.lending.proofs.Names.{ensured, lasts, cited, says, needs, Stays, stay-dropped, walkOf, Walks, ends-at}
+use Rattle.lending.proofs.Names.{walked, AllGo, goes-dropped}
+use Rattle.lending.proofs.Closing.{followed}
 use Rattle.lending.proofs.Local as local
 use denote.Struct.Laws as LL
 use Rattle.layer.specs.Tier.{layersThrough, sumsThrough}
@@ -54,9 +55,9 @@ stayed = (
 )
 
 -- the contract of the call that is lent the layers
-abbrev Bears : {M : Type 1} (𝓤 : URA M) (H : Heap 𝓤) (A : Atoms 𝓤) (mem : Memory → SProp 𝓤)
+abbrev Bears : {M : Type 1} (𝓤 : URA M) (H : Heap 𝓤) (A : Atoms 𝓤) (at-mem : Memory → SProp 𝓤)
     (exec : Routine → Fun 𝓤) → Contract 𝓤
-Bears 𝓤 H A mem exec = tripleOf 𝓤 H A all.signature (all.spec 𝓤 H A mem exec)
+Bears 𝓤 H A at-mem exec = tripleOf 𝓤 H A all.signature (all.spec 𝓤 H A at-mem exec)
 
 -- the machine values of eight layers and of sums
 abbrev layers-vals : List Layer → List Val
@@ -294,11 +295,10 @@ module _ {M : Type 1} (𝓤 : URA M) (H : Heap 𝓤) (A : Atoms 𝓤) (W : Given
 
 module _ {M : Type 1} (𝓤 : URA M) (H : Heap 𝓤) (A : Atoms 𝓤) (W : Given 𝓤 H A) (at-mem : Memory → SProp 𝓤)
     (exec : Routine → Fun 𝓤) where
-  first-walks : (C : Calls 𝓤 H) (Λ : Loops 𝓤 H) → FmC 𝓤 H (W .laws) C
-      → Triple 𝓤 (C #layer·bear-all) (Bears 𝓤 H A at-mem exec)
-      → Walks 𝓤 H A first.ended stayed (WpFn 𝓤 H C Λ code.function) (first.clauses 𝓤 H A at-mem exec)
-  first-walks C Λ fm known =
-      walked 𝓤 H A first.ended stayed (first.clauses 𝓤 H A at-mem exec) (WpFn 𝓤 H C Λ code.function)
+  first-walks : (𝓣 : Tables 𝓤 H) → Triple 𝓤 (𝓣 .C #layer·bear-all) (Bears 𝓤 H A at-mem exec)
+      → Walks 𝓤 H A first.ended stayed (WpFn 𝓤 H (𝓣 .C) (𝓣 .Λ) code.function) (first.clauses 𝓤 H A at-mem exec)
+  first-walks 𝓣 known =
+      walked 𝓤 H A first.ended stayed (first.clauses 𝓤 H A at-mem exec) (WpFn 𝓤 H (𝓣 .C) (𝓣 .Λ) code.function)
       (λ κs. (layers-vals, (uint-vals w64, (slice-vals, (sums-vals, tt)))))
       (λ κs. (
         array-tells L.the-row (LL.vals L.the-type L′.the-laws) (LL.tells L.the-type L′.the-laws) 8,
@@ -307,32 +307,27 @@ module _ {M : Type 1} (𝓤 : URA M) (H : Heap 𝓤) (A : Atoms 𝓤) (W : Given
       (λ κs qs bounds a _ are.
       needs 𝓤 ((a .1 .0 ≤ 8) × SoundLayers (take (a .1 .0) (a .0)) × AmpleForTier (a .1 .1 .1 .0)) _ (λ asked.
       walk 𝓤 H A W at-mem exec (κs .0) (qs .0) (a .0) (a .1 .0) (a .1 .1 .0) (a .1 .1 .1 .0) (are .0) (are .1 .0 .1)
-      (are .1 .1 .1 .0) (asked .0) (asked .1) (asked .2) C Λ fm known (are .1 .1 .0 .0 .1)))
+      (are .1 .1 .1 .0) (asked .0) (asked .1) (asked .2) (𝓣 .C) (𝓣 .Λ) (fmOf 𝓤 H (W .laws) 𝓣) known
+      (are .1 .1 .0 .0 .1)))
 
-first-meets : {M : Type 1} (𝓤 : URA M) (H : Heap 𝓤) (A : Atoms 𝓤) → Given 𝓤 H A → (at-mem : Memory → SProp 𝓤)
-    (exec : Routine → Fun 𝓤) (𝓣 : Tables 𝓤 H) → Triple 𝓤 (𝓣 .C #layer·bear-all) (Bears 𝓤 H A at-mem exec)
-    → Meets 𝓤 H A first.signature (WpFn 𝓤 H (𝓣 .C) (𝓣 .Λ) code.function) (first.spec 𝓤 H A at-mem exec)
-first-meets 𝓤 H A W at-mem exec 𝓣 known =
-    walk-meets 𝓤 H A first.ended stayed W (
-      goes-dropped 𝓤 H A W 1 (ArrayOf (plain (λ _. L.the-row)) (λ _. tt) 8) yes (λ κs x f. refl),
+module _ {M : Type 1} (𝓤 : URA M) (H : Heap 𝓤) (A : Atoms 𝓤) (W : Given 𝓤 H A) where
+  goes : AllGo 𝓤 H A W 1 (first.signature .params) (first.ended .kept) stayed
+  goes = (
+    goes-dropped 𝓤 H A W 1 (ArrayOf (plain (λ _. L.the-row)) (λ _. tt) 8) yes (λ κs x f. refl),
+    (
+      goes-dropped 𝓤 H A W 1 (plain (λ _. usize)) yes (λ κs x f. refl),
       (
-        goes-dropped 𝓤 H A W 1 (plain (λ _. usize)) yes (λ κs x f. refl),
-        (
-          goes-dropped 𝓤 H A W 1 (shrSliceOf (0 ∷ []) tt (plain (λ _. u64))) yes (λ κs x f. refl),
-          (goes-dropped 𝓤 H A W 1 (plain (λ _. Z.the-row)) yes (λ κs x f. refl), tt),
-        ),
+        goes-dropped 𝓤 H A W 1 (shrSliceOf (0 ∷ []) tt (plain (λ _. u64))) yes (λ κs x f. refl),
+        (goes-dropped 𝓤 H A W 1 (plain (λ _. Z.the-row)) yes (λ κs x f. refl), tt),
       ),
-    )
-    (first.clauses 𝓤 H A at-mem exec) (WpFn 𝓤 H (𝓣 .C) (𝓣 .Λ) code.function)
-    (WpFn-mono 𝓤 H (W .laws) 𝓣 code.function)
-    (first-walks 𝓤 H A W at-mem exec (𝓣 .C) (𝓣 .Λ) (fmOf 𝓤 H (W .laws) 𝓣) known)
+    ),
+  )
 
 pub bear-first-spec : {M : Type 1} → stated.statement M
 unfolding code.routine tablesOf
 bear-first-spec 𝓤 H 𝓜 𝓖 𝓡 =
-    entered 𝓤 H (tripleOf 𝓤 H (𝓖 .A) first.signature (first.spec 𝓤 H (𝓖 .A) (𝓜 .mem) (𝓡 .run)))
-    (tables 𝓤 H 𝓜 𝓡 code.env .C) (tables 𝓤 H 𝓜 𝓡 code.env .Λ) #layer·bear-first code.function
-    (code.unfolded 𝓤 H 𝓜 𝓡)
-    (first-meets 𝓤 H (𝓖 .A) (givenOf 𝓤 H 𝓜 𝓖) (𝓜 .mem) (𝓡 .run) (tablesOf 𝓤 H 𝓜 (tables 𝓤 H 𝓜 𝓡 code.env))
+    followed 𝓤 H 𝓜 𝓖 𝓡 code.env first.ended stayed (goes 𝓤 H (𝓖 .A) (givenOf 𝓤 H 𝓜 𝓖)) #layer·bear-first code.function
+    (code.unfolded 𝓤 H 𝓜 𝓡) (first.clauses 𝓤 H (𝓖 .A) (𝓜 .mem) (𝓡 .run))
+    (first-walks 𝓤 H (𝓖 .A) (givenOf 𝓤 H 𝓜 𝓖) (𝓜 .mem) (𝓡 .run) (tablesOf 𝓤 H 𝓜 (tables 𝓤 H 𝓜 𝓡 code.env))
     (cited 𝓤 H (Bears 𝓤 H (𝓖 .A) (𝓜 .mem) (𝓡 .run)) 𝓜 𝓡 code.env #layer·bear-all all-def.routine
     code.calls-layer·tier·bear-all (all-thm.met 𝓤 H 𝓜 𝓖 𝓡)))
