@@ -1,0 +1,81 @@
+//! The cession engine for Rust: reads and writes treaty tables, opens a year and runs events through it.
+//!
+//! A [`Programme`] has the contracts of a treaty table, a [`Standing`] the year so far. A run takes an events text,
+//! gives the statement and moves the standing on; a call that is turned down gives a [`Refusal`] and leaves everything
+//! as it was lent. Amounts are whole cents; shares and rates are basis points, 10,000 to the whole.
+//!
+//! ```
+//! use cession::Programme;
+//!
+//! let table = b"(cat (band 100000000 150000000) (deduct 0) (back 1 5000 75000000) (placed 8000))\n";
+//! let programme = Programme::read(table)?;
+//! let mut standing = programme.open()?;
+//! let statement = programme.run(&mut standing, b"(event 230 (loss 0 350000000 350000000))\n")?;
+//! let lines: Vec<&str> = std::str::from_utf8(&statement)?.lines().collect();
+//! assert_eq!(lines[1], "(layer cat 1 (deductible 0) (cover 150000000) (recovered 120000000) (premium 30000000))");
+//! assert_eq!(standing.cat()[0], 150_000_000);
+//! assert_eq!(standing.day(), 230);
+//! # Ok::<(), Box<dyn std::error::Error>>(())
+//! ```
+//!
+//! The calls are pure functions of what is lent to them and may run in any number of threads at once. A run takes
+//! about 380 kB of stack: a thread needs 512 kB for it, and Rust's threads have 2 MB if nothing else is said. The
+//! library libcession.a is linked in; with Cargo, `CESSION_LIB_DIR` names its folder.
+
+mod programme;
+pub mod raw;
+mod refusal;
+mod standing;
+
+pub use programme::Programme;
+pub use raw::{Terms, Treaty};
+pub use refusal::Refusal;
+pub use standing::Standing;
+
+/// The places for treaties, and for the layers of each tier.
+///
+/// ```
+/// let programme = cession::raw::Programme::default();
+/// assert_eq!(programme.cat.places.len(), cession::PLACES);
+/// ```
+pub const PLACES: usize = 8;
+
+/// The longest table text that is read, in bytes.
+///
+/// ```
+/// use cession::{Programme, Refusal};
+///
+/// let long = vec![b'\n'; cession::TABLE_BYTES + 1];
+/// assert_eq!(Programme::read(&long), Err(Refusal::TableTooLong));
+/// ```
+pub const TABLE_BYTES: usize = 8_192;
+
+/// The longest events text that is run, in bytes.
+///
+/// ```
+/// use cession::{Programme, Refusal};
+///
+/// let programme = Programme::default();
+/// let long = vec![b'\n'; cession::EVENTS_BYTES + 1];
+/// assert_eq!(programme.run(&mut programme.open()?, &long), Err(Refusal::EventsTooLong));
+/// # Ok::<(), Refusal>(())
+/// ```
+pub const EVENTS_BYTES: usize = 65_536;
+
+/// The kind of a treaty that is a quota share.
+///
+/// ```
+/// let programme = cession::Programme::read(b"(quota 1 (cede 4000) (capacity 0) (event 0))\n")?;
+/// assert_eq!(programme.treaties()[0].kind, cession::QUOTA_SHARE);
+/// # Ok::<(), cession::Refusal>(())
+/// ```
+pub const QUOTA_SHARE: u64 = 1;
+
+/// The kind of a treaty that is a surplus.
+///
+/// ```
+/// let programme = cession::Programme::read(b"(surplus 1 (retain 10000) (lines 3) (event 0))\n")?;
+/// assert_eq!(programme.treaties()[0].kind, cession::SURPLUS);
+/// # Ok::<(), cession::Refusal>(())
+/// ```
+pub const SURPLUS: u64 = 2;
