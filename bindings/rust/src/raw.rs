@@ -1,7 +1,7 @@
 //! The public calls as the library exports them, with C's layouts and calling convention. The header include/cession.h
 //! says what each field means; a test compares sizes and offsets here with the header's.
 //!
-//! Amounts are whole cents (c), shares and rates basis points (bp), 10,000 to the whole.
+//! Amounts are whole cents, shares and rates basis points (bp), 10,000 to the whole.
 //!
 //! ```
 //! use cession::raw::{cession_open, cession_read, cession_run, cession_write};
@@ -31,13 +31,13 @@ pub struct Treaty {
     pub number: u64,
     /// Quota share: the share ceded, bp, 0 to 10,000.
     pub cede: u64,
-    /// Quota share: the capacity, c, 0 to 10^13; 0 means none.
+    /// Quota share: the capacity, cents, 0 to 10^13; 0 means none.
     pub capacity: u64,
-    /// Surplus: the retention, c, 0 to 10^13.
+    /// Surplus: the retention, cents, 0 to 10^13.
     pub retention: u64,
     /// Surplus: the number of lines, 0 to 100.
     pub lines: u64,
-    /// The event limit, c, 0 to 10^13; 0 means none.
+    /// The event limit, cents, 0 to 10^13; 0 means none.
     pub limit: u64,
 }
 
@@ -45,17 +45,17 @@ pub struct Treaty {
 #[repr(C)]
 #[derive(Clone, Copy, Default, PartialEq, Eq, Debug)]
 pub struct Terms {
-    /// Where the layer begins, c, 0 to 10^13, at or above the end of the layer before.
+    /// Where the layer begins, cents, 0 to 10^13, at or above the end of the layer before.
     pub attachment: u64,
-    /// The layer's limit, c, 1 to 10^13.
+    /// The layer's limit, cents, 1 to 10^13.
     pub limit: u64,
-    /// The yearly deductible, c, 0 to 10^15.
+    /// The yearly deductible, cents, 0 to 10^15.
     pub deductible: u64,
     /// How many, 0 to 20.
     pub reinstatements: u64,
     /// The reinstatements' rate, bp, 0 to 20,000.
     pub rate: u64,
-    /// For 100% of the layer, c, 0 to 10^12.
+    /// For 100% of the layer, cents, 0 to 10^12.
     pub premium: u64,
     /// The placed share, bp, 0 to 10,000.
     pub placed: u64,
@@ -97,9 +97,9 @@ pub struct Programme {
 #[repr(C)]
 #[derive(Clone, Copy, Default, PartialEq, Eq, Debug)]
 pub struct Standing {
-    /// The spent amount of each risk layer, c, 0 to its cap.
+    /// The spent amount of each risk layer, cents, 0 to its cap.
     pub risk: [u64; 8],
-    /// The spent amount of each cat layer, c, 0 to its cap.
+    /// The spent amount of each cat layer, cents, 0 to its cap.
     pub cat: [u64; 8],
     /// The last day run, 0 to 366; 0 before the first event.
     pub day: u64,

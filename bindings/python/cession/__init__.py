@@ -1,0 +1,65 @@
+"""The cession engine for Python: reads and writes treaty tables, opens a year and runs events through it.
+
+A `Programme` has the contracts of a treaty table, a `Standing` the year so far. A run takes an events text and gives
+the statement and the standing after it; a call that is turned down raises `Refused` and changes nothing. Amounts are
+whole cents; shares and rates are basis points, 10,000 to the whole.
+
+>>> import cession
+>>> table = b"(cat (band 100000000 150000000) (deduct 0) (back 1 5000 75000000) (placed 8000))\\n"
+>>> programme = cession.read(table)
+>>> standing = cession.open_year(programme)
+>>> statement, standing = cession.run(programme, standing, b"(event 230 (loss 0 350000000 350000000))\\n")
+>>> print(statement.decode().splitlines()[1])
+(layer cat 1 (deductible 0) (cover 150000000) (recovered 120000000) (premium 30000000))
+>>> standing.cat[0], standing.day
+(150000000, 230)
+>>> try:
+...     cession.run(programme, standing, b"(event 231)\\n(event 367)\\n")
+... except cession.EventsRefused as refused:
+...     print(refused.number, refused.line, refused)
+11 2 line 2 of the events has a number outside its range
+
+The shared object is the file that the environment's CESSION_LIBRARY names, else libcession.so beside this module, else
+what the system's loader finds under that name. The calls are pure functions of what is lent to them and may run in any
+number of threads at once; a run takes about 380 kB of stack, so that a thread needs 512 kB for it.
+"""
+
+from .calls import EVENTS_BYTES, TABLE_BYTES, open_year, read, run, run_into, write, write_into
+from .contracts import QUOTA_SHARE, SURPLUS, Programme, Standing, Terms, Treaty
+from .raw import PLACES
+from .refusals import (
+    BufferTooShort,
+    EventsRefused,
+    ProgrammeRefused,
+    Refusal,
+    Refused,
+    StandingRefused,
+    TableRefused,
+    refused,
+)
+
+__all__ = [
+    "BufferTooShort",
+    "EVENTS_BYTES",
+    "EventsRefused",
+    "PLACES",
+    "Programme",
+    "ProgrammeRefused",
+    "QUOTA_SHARE",
+    "Refusal",
+    "Refused",
+    "SURPLUS",
+    "Standing",
+    "StandingRefused",
+    "TABLE_BYTES",
+    "TableRefused",
+    "Terms",
+    "Treaty",
+    "open_year",
+    "read",
+    "refused",
+    "run",
+    "run_into",
+    "write",
+    "write_into",
+]

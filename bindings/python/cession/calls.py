@@ -1,0 +1,136 @@
+"""The public calls."""
+
+import ctypes
+from typing import Callable, Tuple
+
+from . import raw
+from .contracts import Programme, Standing
+from .refusals import BufferTooShort, refused
+
+TABLE_BYTES = 8192
+EVENTS_BYTES = 65536
+
+
+def _accepted(refusal: int, number: int) -> int:
+    """The number of an accepted call; a refusal is raised."""
+    if refusal:
+        raise refused(refusal, number)
+    return number
+
+
+def _text(name: str, text: bytes) -> bytes:
+    """The text, if it is bytes."""
+    if not isinstance(text, bytes):
+        raise TypeError(f"{name} is a {type(text).__name__} and must be bytes")
+    return text
+
+
+def _room(buffer):
+    """The bytes of a buffer, to be lent, and their number."""
+    length = memoryview(buffer).nbytes
+    return (ctypes.c_char * length).from_buffer(buffer), length
+
+
+def _owned(first: int, call: Callable[[bytearray], int]) -> bytes:
+    """The text that a call writes. It is lent a buffer of the first length and, where it tells that it needs more, one
+    of the length told: a refused call has changed nothing.
+    """
+    buffer = bytearray(first)
+    try:
+        length = call(buffer)
+    except BufferTooShort as short:
+        buffer = bytearray(short.needed)
+        length = call(buffer)
+    return bytes(memoryview(buffer)[:length])
+
+
+def read(text: bytes) -> Programme:
+    """Reads a table text. An empty text is the programme without contracts.
+
+    >>> programme = read(b"(quota 1 (cede 4000) (capacity 20000) (event 0))\\n")
+    >>> programme.treaties[0].cede
+    4000
+    >>> read(b"(quota 1)\\n")
+    Traceback (most recent call last):
+    cession.refusals.TableRefused: line 1 of the treaty table is none of the forms quota, surplus, risk and cat
+    """
+    reading = raw.library().cession_read(_text("text", text), len(text))
+    _accepted(reading.refusal, reading.line)
+    return Programme.from_raw(reading.programme)
+
+
+def write(programme: Programme) -> bytes:
+    """Writes the table text: the text that was read, if one was.
+
+    >>> from cession import Terms
+    >>> write(Programme(cat=[Terms(attachment=50, limit=100, placed=9000)]))
+    b'(cat (band 50 100) (deduct 0) (back 0 0 0) (placed 9000))\\n'
+    >>> write(Programme(cat=[Terms(attachment=50, limit=0)]))
+    Traceback (most recent call last):
+    cession.refusals.ProgrammeRefused: the programme is not one that a treaty table can state
+    """
+    return _owned(TABLE_BYTES, lambda buffer: write_into(programme, buffer))
+
+
+def write_into(programme: Programme, buffer: bytearray) -> int:
+    """Writes the table text into a buffer and gives its length; the bytes past it are left as they were. The buffer
+    may be anything that can be written to as bytes, also a part of a bytearray by way of `memoryview`.
+
+    >>> buffer = bytearray(100)
+    >>> length = write_into(read(b"(surplus 2 (retain 10000) (lines 3) (event 0))\\n"), buffer)
+    >>> bytes(buffer[:length])
+    b'(surplus 2 (retain 10000) (lines 3) (event 0))\\n'
+    """
+    room, length = _room(buffer)
+    answer = raw.library().cession_write(programme._lent, room, length)
+    return _accepted(answer.refusal, answer.number)
+
+
+def open_year(programme: Programme) -> Standing:
+    """Opens a year: nothing spent, no day run.
+
+    >>> open_year(Programme()).day
+    0
+    """
+    opening = raw.library().cession_open(programme._lent)
+    _accepted(opening.refusal, opening.number)
+    return Standing.from_raw(opening.standing)
+
+
+def run(programme: Programme, standing: Standing, events: bytes) -> Tuple[bytes, Standing]:
+    """Runs an events text and gives the statement, however long it is, and the standing after the run.
+
+    >>> programme = read(b"(quota 1 (cede 4000) (capacity 0) (event 0))\\n")
+    >>> statement, standing = run(programme, open_year(programme), b"(event 40 (loss 1 101 101))\\n")
+    >>> print(statement.decode().splitlines()[0])
+    (event 40 (gross 101) (ceded 40) (risk 0) (cat 0) (net 61) (premium 0))
+    >>> standing.day
+    40
+    >>> run(programme, standing, b"(event 41)\\n(event 39)\\n")
+    Traceback (most recent call last):
+    cession.refusals.EventsRefused: line 2 of the events has a day before that of the event before it
+    """
+    lent = standing.to_raw()
+    statement = _owned(EVENTS_BYTES, lambda buffer: run_into(programme, lent, events, buffer))
+    return statement, Standing.from_raw(lent)
+
+
+def run_into(programme: Programme, standing: raw.Standing, events: bytes, buffer: bytearray) -> int:
+    """Runs an events text, moves the standing on, writes the statement into a buffer and gives its length. The
+    standing is lent: `Standing.to_raw` makes one, `Standing.from_raw` takes it back. A refused run leaves it and the
+    buffer as they were. The buffer may be what `write_into` takes.
+
+    >>> programme, buffer = Programme(), bytearray(200)
+    >>> lent = open_year(programme).to_raw()
+    >>> length = run_into(programme, lent, b"(event 9)\\n", buffer)
+    >>> length, Standing.from_raw(lent).day
+    (132, 9)
+    >>> run_into(programme, lent, b"(event 10)\\n", bytearray(20))
+    Traceback (most recent call last):
+    cession.refusals.BufferTooShort: the text needs 133 bytes, more than the buffer has
+    >>> lent.day
+    9
+    """
+    room, length = _room(buffer)
+    answer = raw.library().cession_run(programme._lent, standing, _text("events", events), len(events), room, length)
+    return _accepted(answer.refusal, answer.number)

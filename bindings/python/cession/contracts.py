@@ -1,0 +1,170 @@
+"""The contracts of a table and the year so far, as values that do not change.
+
+Amounts are whole cents; shares and rates are basis points, 10,000 to the whole. Any numbers of 64 bits may be put in:
+the calls refuse what no table states.
+"""
+
+import functools
+from dataclasses import dataclass
+from typing import Tuple
+
+from . import raw
+
+QUOTA_SHARE = 1
+SURPLUS = 2
+
+
+def _word(name: str, value: int) -> int:
+    """The value, if 64 bits hold it: a larger one would be cut off on its way into the library."""
+    if not isinstance(value, int):
+        raise TypeError(f"{name} is a {type(value).__name__} and must be an int")
+    if not 0 <= value < 2**64:
+        raise ValueError(f"{name} is {value} and must be from 0 to 2**64 - 1")
+    return value
+
+
+def _filled(structure: type, name: str, record: object):
+    """The structure with the record's number in each of its fields."""
+    return structure(*(_word(f"{name}.{field}", getattr(record, field)) for field, _ in structure._fields_))
+
+
+def _places(structure: type, name: str, records: tuple):
+    """The structure of places with the records in the first of them."""
+    if len(records) > raw.PLACES:
+        raise ValueError(f"{name} has {len(records)} places and may have {raw.PLACES}")
+    kind = structure().places._type_
+    filled = (_filled(kind, f"{name}[{place}]", record) for place, record in enumerate(records))
+    return structure((kind * raw.PLACES)(*filled), len(records))
+
+
+def _spent(name: str, amounts: tuple):
+    """The spent amounts of one tier."""
+    if len(amounts) != raw.PLACES:
+        raise ValueError(f"{name} has {len(amounts)} places and must have {raw.PLACES}")
+    return tuple(_word(f"{name}[{place}]", amount) for place, amount in enumerate(amounts))
+
+
+def _taken(kind: type, places) -> tuple:
+    """The records in the places in use."""
+    used = places.places[: places.count]
+    return tuple(kind(*(getattr(place, field) for field, _ in place._fields_)) for place in used)
+
+
+@dataclass(frozen=True)
+class Treaty:
+    """A proportional treaty: `QUOTA_SHARE` with `cede` and `capacity`, or `SURPLUS` with `retention` and `lines`; the
+    terms of the other kind stay 0. `number` is 1 to 8, `limit` the event limit. Capacity 0 and limit 0 mean none.
+
+    >>> Treaty(QUOTA_SHARE, number=1, cede=4000, capacity=20000)
+    Treaty(kind=1, number=1, cede=4000, capacity=20000, retention=0, lines=0, limit=0)
+    """
+
+    kind: int
+    number: int
+    cede: int = 0
+    capacity: int = 0
+    retention: int = 0
+    lines: int = 0
+    limit: int = 0
+
+
+@dataclass(frozen=True)
+class Terms:
+    """The terms of an excess layer. The deductible is yearly; reinstatements are a number, and their rate is of the
+    premium, which is that for 100% of the layer.
+
+    >>> Terms(attachment=50, limit=100, placed=9000).deductible
+    0
+    """
+
+    attachment: int
+    limit: int
+    deductible: int = 0
+    reinstatements: int = 0
+    rate: int = 0
+    premium: int = 0
+    placed: int = 0
+
+
+@dataclass(frozen=True)
+class Programme:
+    """The contracts of a table: at most 8 treaties, 8 risk layers and 8 cat layers, in the table's order.
+
+    >>> programme = Programme(cat=[Terms(attachment=50, limit=100, placed=9000)])
+    >>> programme.cat[0].limit, programme.risk
+    (100, ())
+    """
+
+    treaties: Tuple[Treaty, ...] = ()
+    risk: Tuple[Terms, ...] = ()
+    cat: Tuple[Terms, ...] = ()
+
+    def __post_init__(self):
+        for name in ("treaties", "risk", "cat"):
+            object.__setattr__(self, name, tuple(getattr(self, name)))
+
+    def to_raw(self) -> raw.Programme:
+        """The programme as the library takes it. Numbers that 64 bits do not hold, and a ninth place, are an error.
+
+        >>> Programme(risk=[Terms(attachment=2**64, limit=1)]).to_raw()
+        Traceback (most recent call last):
+        ValueError: risk[0].attachment is 18446744073709551616 and must be from 0 to 2**64 - 1
+        """
+        return raw.Programme(
+            _places(raw.Treaties, "treaties", self.treaties),
+            _places(raw.Layers, "risk", self.risk),
+            _places(raw.Layers, "cat", self.cat),
+        )
+
+    # What the calls lend; it is made once, since neither the programme nor a call changes it.
+    _lent = functools.cached_property(to_raw)
+
+    @classmethod
+    def from_raw(cls, numbers: raw.Programme) -> "Programme":
+        """The programme with these numbers. A count above 8 and a number in an unused place are an error: the
+        programme would not have them.
+
+        >>> Programme.from_raw(raw.Programme())
+        Programme(treaties=(), risk=(), cat=())
+        """
+        treaties, risk, cat = numbers.treaties, numbers.risk, numbers.cat
+        programme = cls(_taken(Treaty, treaties), _taken(Terms, risk), _taken(Terms, cat))
+        if bytes(programme._lent) != bytes(numbers):
+            raise ValueError("a count is above 8, or an unused place is not 0")
+        return programme
+
+
+@dataclass(frozen=True)
+class Standing:
+    """The year so far: the spent amount of each layer in 8 places for each tier, 0 where there is no layer, and the
+    last day run.
+
+    >>> Standing().day
+    0
+    """
+
+    risk: Tuple[int, ...] = (0,) * raw.PLACES
+    cat: Tuple[int, ...] = (0,) * raw.PLACES
+    day: int = 0
+
+    def __post_init__(self):
+        for name in ("risk", "cat"):
+            object.__setattr__(self, name, tuple(getattr(self, name)))
+
+    def to_raw(self) -> raw.Standing:
+        """The standing to be lent to `run_into`, which moves it on.
+
+        >>> Standing(day=-1).to_raw()
+        Traceback (most recent call last):
+        ValueError: day is -1 and must be from 0 to 2**64 - 1
+        """
+        return raw.Standing(_spent("risk", self.risk), _spent("cat", self.cat), _word("day", self.day))
+
+    @classmethod
+    def from_raw(cls, numbers: raw.Standing) -> "Standing":
+        """The standing with these numbers.
+
+        >>> Standing.from_raw(Standing(day=230).to_raw()) == Standing(day=230)
+        True
+        """
+        return cls(tuple(numbers.risk), tuple(numbers.cat), numbers.day)
