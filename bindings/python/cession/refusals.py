@@ -49,7 +49,7 @@ _SENTENCES = {
     Refusal.NO_SUCH_TREATY: _EVENTS + "has a loss under a treaty that the treaty table does not have",
 }
 
-_UNNAMED = "the library refused with {number} and {second}, which this version has no sentence for"
+_UNNAMED = "the library refused with {number} and {second}, which this version does not know"
 
 
 class Refused(Exception):

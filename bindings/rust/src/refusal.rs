@@ -163,7 +163,7 @@ impl fmt::Display for Refusal {
                 write!(f, "{} has a loss under a treaty that the treaty table does not have", of_events(line))
             }
             Refusal::Other { number, second } => {
-                write!(f, "the library refused with {number} and {second}, which this version has no sentence for")
+                write!(f, "the library refused with {number} and {second}, which this version does not know")
             }
         }
     }
