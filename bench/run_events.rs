@@ -3,8 +3,10 @@
 #[path = "../tests/second/calculation.rs"]
 #[allow(dead_code)] // the tests call the rest
 mod calculation;
-mod engine;
 mod random;
+#[path = "../bindings/rust/src/raw.rs"]
+#[allow(dead_code)] // writing is not measured here
+mod raw;
 
 use random::Random;
 use std::fmt::Write;
@@ -18,25 +20,28 @@ const ROUNDS: usize = 60;
 struct Case {
     name: &'static str,
     events: Vec<u8>,
-    engine: engine::Programme,
-    fresh: engine::Standing,
+    engine: raw::Programme,
+    fresh: raw::Standing,
     second: calculation::Programme,
 }
 
 impl Case {
     fn new(name: &'static str, table: &str, events: String) -> Case {
-        let reading = engine::read(table.as_bytes());
+        let reading = unsafe { raw::cession_read(table.as_ptr(), table.len()) };
         assert_eq!(reading.refusal, 0, "{table}");
         let second = calculation::read_table(table.as_bytes()).expect("a table");
-        let fresh = engine::open(&reading.programme).standing;
+        let fresh = unsafe { raw::cession_open(reading.programme) }.standing;
         Case { name, events: events.into_bytes(), engine: reading.programme, fresh, second }
     }
 
     fn by_engine(&self, buffer: &mut [u8]) -> Result<usize, calculation::Refusal> {
-        let ran = engine::run(&self.engine, &self.fresh, &self.events, buffer);
-        match ran.answer {
-            engine::Answer { refusal: 0, number } => Ok(number as usize),
-            engine::Answer { refusal, number } => Err((refusal, number)),
+        let mut standing = self.fresh;
+        let (text, room) = (self.events.as_ptr(), buffer.as_mut_ptr());
+        let answer =
+            unsafe { raw::cession_run(self.engine, &mut standing, text, self.events.len(), room, buffer.len()) };
+        match answer {
+            raw::Answer { refusal: 0, number } => Ok(number as usize),
+            raw::Answer { refusal, number } => Err((refusal, number)),
         }
     }
 

@@ -1,13 +1,23 @@
 // Reading and writing a treaty table against a plain Rust reader and writer: the same answers, and how many times the
 // time. `bash bench/run` builds and runs it. Nothing here is part of the gate.
-mod engine;
 mod random;
+#[path = "../bindings/rust/src/raw.rs"]
+#[allow(dead_code)] // opening and running are not measured here
+mod raw;
 
-use engine::{Answer, Layers, Programme, Reading, Terms, Treaties, Treaty};
 use random::Random;
+use raw::{Answer, Layers, Programme, Reading, Terms, Treaties, Treaty};
 use std::fmt::Write;
 use std::hint::black_box;
 use std::time::Instant;
+
+fn engine_read(text: &[u8]) -> Reading {
+    unsafe { raw::cession_read(text.as_ptr(), text.len()) }
+}
+
+fn engine_write(programme: &Programme, buffer: &mut [u8]) -> Answer {
+    unsafe { raw::cession_write(*programme, buffer.as_mut_ptr(), buffer.len()) }
+}
 
 // The plain reader: a cursor over one line.
 struct Cursor<'a>(&'a [u8]);
@@ -298,7 +308,7 @@ impl Random {
 fn compare_writing(programme: &Programme, length: usize, seen: &mut [u64; 8]) {
     for room in [length + 3, length, length.saturating_sub(1)] {
         let (mut ours, mut theirs) = (vec![7; room], vec![7; room]);
-        let answer = engine::write(programme, &mut ours);
+        let answer = engine_write(programme, &mut ours);
         assert_eq!(answer, plain_write(programme, &mut theirs));
         assert_eq!(ours, theirs);
         seen[answer.refusal as usize] += 1;
@@ -316,11 +326,11 @@ fn compare(random: &mut Random, turns: usize) -> [u64; 8] {
             damaged.resize(8192 + (random.next() % 2) as usize, b'\n');
         }
         for bytes in [text.as_bytes(), &damaged] {
-            let reading = engine::read(bytes);
+            let reading = engine_read(bytes);
             assert_eq!(reading, plain_read(bytes));
             seen[reading.refusal as usize] += 1;
         }
-        assert_eq!(engine::read(text.as_bytes()).programme, programme);
+        assert_eq!(engine_read(text.as_bytes()).programme, programme);
         compare_writing(&programme, text.len(), &mut seen);
         compare_writing(&random.changed(&programme), text.len(), &mut seen);
     }
@@ -353,11 +363,11 @@ fn main() {
         let text = text.as_bytes();
         let (mut ours, mut theirs) = (vec![0; text.len()], vec![0; text.len()]);
         ratios[0].push(ratio(
-            || { black_box(engine::read(black_box(text))); },
+            || { black_box(engine_read(black_box(text))); },
             || { black_box(plain_read(black_box(text))); },
         ));
         ratios[1].push(ratio(
-            || { black_box(engine::write(black_box(&programme), black_box(&mut ours))); },
+            || { black_box(engine_write(black_box(&programme), black_box(&mut ours))); },
             || { black_box(plain_write(black_box(&programme), black_box(&mut theirs))); },
         ));
     }
