@@ -1,11 +1,76 @@
 # Builds the engine for other programs to link, and installs it. rt proves what has changed before anything is built.
-built := target/staticlib
+#
+#   make              the libraries and the program
+#   make install      puts them under PREFIX with header, command, man page and Python module; builds what is missing
+#                     and leaves what stands
+#   make uninstall    removes what install puts there
+#
+# PREFIX is the folder that all is found under later; DESTDIR is put before it where the files are staged elsewhere.
+PREFIX ?= /usr/local
+DESTDIR ?=
+export PREFIX DESTDIR
 
-.PHONY: library
+built := target/staticlib
+command := target/bin/cession_cli
+shared = $(CC) -shared -Wl,--whole-archive $(built)/libcession.a -Wl,--no-whole-archive -Wl,-soname,libcession.so \
+	-o $(built)/libcession.so
+
+.PHONY: all library program install uninstall
+
+all: library program
 
 # The static library, and the shared one made of it.
 library:
 	@mkdir -p target
 	@rt staticlib cession > target/staticlib.log 2>&1 || { cat target/staticlib.log >&2; exit 1; }
-	@$(CC) -shared -Wl,--whole-archive $(built)/libcession.a -Wl,--no-whole-archive -Wl,-soname,libcession.so \
-		-o $(built)/libcession.so
+	@$(shared)
+
+program:
+	@mkdir -p target
+	@rt check cession_cli > target/program.log 2>&1 || { cat target/program.log >&2; exit 1; }
+
+$(built)/libcession.a:
+	@$(MAKE) --no-print-directory library
+
+$(built)/libcession.so: | $(built)/libcession.a
+	@$(shared)
+
+$(command):
+	@$(MAKE) --no-print-directory program
+
+# What is installed: its mode, its file here, its folder under PREFIX.
+python := lib/cession/python/cession
+files := \
+	755:cession:bin \
+	644:include/cession.h:include \
+	644:$(built)/libcession.a:lib \
+	755:$(built)/libcession.so:lib \
+	755:$(command):libexec/cession \
+	644:scripts/chart.py:libexec/cession \
+	$(patsubst %,644:%:libexec/cession/drawing,$(wildcard scripts/drawing/*.py)) \
+	$(patsubst %,644:%:$(python),$(wildcard bindings/python/cession/*.py)) \
+	$(patsubst %,644:examples/hurricane-sidney/%.txt:share/cession/hurricane-sidney,programme events statement) \
+	644:docs/GUIDE.md:share/doc/cession \
+	644:docs/cession.1:share/man/man1
+
+# Folders that hold nothing else, the inner ones first.
+own := libexec/cession/drawing libexec/cession $(python) lib/cession/python lib/cession \
+	share/cession/hurricane-sidney share/cession share/doc/cession
+
+# The Python module looks for the shared library beside itself first.
+install: $(built)/libcession.a $(built)/libcession.so $(command)
+	@umask 022; for item in $(files); do \
+		mode=$${item%%:*}; folder=$$DESTDIR$$PREFIX/$${item##*:}; file=$${item#*:}; file=$${file%:*}; \
+		install -d "$$folder" && install -m "$$mode" "$$file" "$$folder" || exit 1; \
+	done; \
+	ln -sf ../../../libcession.so "$$DESTDIR$$PREFIX/$(python)/libcession.so"
+
+# A folder of its own in which someone has put something else stays.
+uninstall:
+	@for item in $(files); do \
+		file=$${item#*:}; file=$${file%:*}; \
+		rm -f "$$DESTDIR$$PREFIX/$${item##*:}/$${file##*/}" || exit 1; \
+	done; \
+	rm -f "$$DESTDIR$$PREFIX/$(python)/libcession.so"; \
+	rm -rf "$$DESTDIR$$PREFIX/$(python)/__pycache__"; \
+	for folder in $(own); do rmdir "$$DESTDIR$$PREFIX/$$folder" 2> /dev/null || true; done
