@@ -1,0 +1,57 @@
+"""Writes folders with programmes that are hard to draw, each with its events, into the folder given."""
+
+import os
+import sys
+
+BIG = 10**13
+
+
+def layer(tier, attachment, limit, deductible=0, back="1 10000 70000", placed=9100):
+    return "(%s (band %d %d) (deduct %d) (back %s) (placed %d))" % (tier, attachment, limit, deductible, back, placed)
+
+
+def tower(tier, limits, gap):
+    """Layers with these limits, each at the end of the one before and a gap further."""
+    lines, attachment = [], gap
+    for place, limit in enumerate(limits):
+        lines.append(layer(tier, attachment, limit, limit // 3, "%d 12550 %d" % (place, 8000 + limit % 997), 1237 * place))
+        attachment += limit + gap
+    return lines
+
+
+def losses(count, treaties, amount):
+    """Losses of falling amounts under these treaties in turn."""
+    return " ".join("(loss %d %d %d)" % (treaties[place % len(treaties)], amount, amount - place)
+                    for place in range(count))
+
+
+def treaties():
+    quotas = ["(quota %d (cede 9999) (capacity %d) (event %d))" % (number, BIG, BIG) for number in (1, 2, 3, 4)]
+    return quotas + ["(surplus %d (retain %d) (lines 100) (event %d))" % (number, BIG - 1, BIG) for number in (5, 6, 7, 8)]
+
+
+def programmes():
+    spread = [3 * 10**power for power in (1, 7, 3, 9, 4, 11, 2, 5)]
+    yield "both-tiers", treaties()[::3] + tower("risk", spread, 11) + tower("cat", sorted(spread), 0), [
+        "(event %d %s)" % (day, losses(1 + day % 3, (0, 1, 7), 37 ** (1 + day % 8))) for day in range(1, 201)]
+    yield "thin", [layer("cat", place * 10**12, 1 + place % 2, 10**15, "20 20000 1000000000000", 10000)
+                   for place in range(8)], ["(event 1 %s)" % losses(30, (0,), BIG - 1)] * 5
+    yield "largest", treaties() + [layer(tier, BIG, BIG, 10**15, "20 20000 1000000000000", 9999)
+                                   for tier in ("risk", "cat")], ["(event 366 %s)" % losses(40, range(9), BIG)] * 30
+    yield "treaties", treaties()[:2], ["(event 5 (loss 1 70 61) (loss 2 70 33))", "(event 6)"]
+    yield "one-risk", [layer("risk", 700, 1300)], ["(event 4 (loss 0 900 1500))"]
+    yield "one-cat", [layer("cat", 0, 1300)], ["(event 4 (loss 0 900 %d))" % BIG, "(event 5)"]
+    yield "no-events", tower("cat", [40, 90], 5), []
+    yield "no-contracts", [], ["(event 4 (loss 0 900 1500))"]
+
+
+def main(folder):
+    for name, table, events in programmes():
+        os.makedirs(os.path.join(folder, name), exist_ok=True)
+        for file, lines in (("programme.txt", table), ("events.txt", events)):
+            with open(os.path.join(folder, name, file), "w") as text:
+                text.writelines(line + "\n" for line in lines)
+
+
+if __name__ == "__main__":
+    main(sys.argv[1])

@@ -1,0 +1,119 @@
+"""Holds three charts to figures worked out by hand: where bands begin and end, how wide they are shaded, how high the
+subject of each event stands, how an event's bar is parted. Arguments: the charts of hurricane-sidney, own and cut.
+"""
+
+import sys
+
+from picture import Picture
+
+checks = 0
+
+
+def near(found, expected, what, tolerance=0.02):
+    global checks
+    checks += 1
+    if abs(found - expected) > tolerance:
+        sys.exit("chart: %s is %s, not %s" % (what, found, expected))
+
+
+def same(found, expected, what):
+    global checks
+    checks += 1
+    if found != expected:
+        sys.exit("chart: %s is %s, not %s" % (what, found, expected))
+
+
+def at(stretch, y, amount, what):
+    """The height stands for the amount, to a fiftieth of a pixel."""
+    near(stretch.amount(y), amount, what, 0.02 * stretch.cents_of_a_pixel)
+
+
+def band(picture, name, stretch, attachment, end, share):
+    whole, placed = (picture.rectangle(name, kind) for kind in ("band", "placed"))
+    at(stretch, whole.bottom, attachment, name + "'s lower end")
+    at(stretch, whole.y, end, name + "'s upper end")
+    near(placed.width / whole.width, share, name + "'s shaded width", 0.0002)
+    same((placed.x, placed.y, placed.height), (whole.x, whole.y, whole.height), name + "'s shaded place")
+
+
+def linear(picture, tier, top):
+    """The tier's axis is one stretch from 0, said to be linear, and every label of it is at its place."""
+    stretches = picture.stretches(tier)
+    same([(stretch.low, stretch.high) for stretch in stretches], [(0, top)], tier + "'s axis")
+    same("Height: cents, linear from 0." in picture.texts(tier), True, tier + "'s note on its axis")
+    for amount, y in picture.labels(tier):
+        at(stretches[0], y, amount, "the label %d" % amount)
+    return stretches[0]
+
+
+def subject(picture, name, stretch, amount):
+    at(stretch, picture.rectangle("subject-" + name, "subject").y, amount, "subject of " + name)
+
+
+def row(picture, name, *words):
+    same(picture.texts("event-" + name), [name] + list(words), "row of " + name)
+
+
+def sidney(picture):
+    axis = linear(picture, "cat", 400000000)
+    band(picture, "cat-1", axis, 25000000, 100000000, 1)
+    band(picture, "cat-2", axis, 100000000, 250000000, 0.8)
+    band(picture, "cat-3", axis, 250000000, 400000000, 0.72)
+    heights = [picture.rectangle("cat-%d" % place, "band").height for place in (1, 2, 3)]
+    for height, share in zip(heights, (75, 150, 150)):
+        near(height / sum(heights), share / 375, "a band's part of the tower", 0.0002)
+    subject(picture, "A", axis, 350000000)
+    row(picture, "A", "230", "350,000,000", "0", "0", "350,000,000", "192,000,000", "158,000,000", "44,400,000")
+    for words in ("cat 3: 150,000,000 xs 250,000,000, 72% placed", "yearly deductible 75,000,000, left 0",
+                  "1 reinstatement at 50% of 75,000,000; cover left 150,000,000",
+                  "recovered 72,000,000; reinstatement premium 14,400,000"):
+        same(picture.texts("cat").count(words), 1, "the count of: " + words)
+    same([picture.has(name) for name in ("treaties", "risk", "event-B")], [False] * 3, "what H1 has not")
+
+
+def own(picture):
+    risk, cat = linear(picture, "risk", 1000000), linear(picture, "cat", 5000000)
+    band(picture, "risk-1", risk, 400000, 1000000, 0.9)
+    band(picture, "cat-1", cat, 1000000, 3000000, 0.6)
+    band(picture, "cat-2", cat, 4000000, 5000000, 0.75)
+    subject(picture, "A", cat, 2310000)
+    subject(picture, "B", cat, 4610000)
+    row(picture, "A", "30", "4,100,000", "800,000", "990,000", "2,310,000", "486,000", "1,824,000", "59,580")
+    row(picture, "B", "200", "4,700,000", "0", "90,000", "4,610,000", "1,657,500", "2,952,500", "36,000")
+    whole = 1080  # the width of the largest gross, 4,700,000
+    for name, parts in (("A", (("ceded", 800000), ("risk", 990000), ("cat", 486000), ("net", 1824000))),
+                        ("B", (("risk", 90000), ("cat", 1657500), ("net", 2952500)))):
+        x = 20
+        for kind, amount in parts:
+            found = picture.rectangle("event-" + name, "bar " + kind)
+            near(found.width, whole * amount / 4700000, "%s of %s" % (kind, name))
+            near(found.x, x, "the place of %s of %s" % (kind, name), 0.05)
+            x += found.width
+    same(picture.texts("treaties")[2:], ["treaty 2", "quota share, 25% ceded, no capacity, no event limit",
+                                         "ceded 800,000"], "the treaty")
+
+
+def cut(picture):
+    """Bands of 500, 3,000 and 40,000,000 cents: two scales, and a cut between them."""
+    lower, upper = picture.stretches("cat")
+    same((lower.low, lower.high, upper.low, upper.high), (0, 5000, 5000, 47000000), "the stretches' ends")
+    same("Height: cents, in 2 stretches parted by zigzags; each is linear and has a scale of its own."
+         in picture.texts("cat"), True, "the note on the axis")
+    band(picture, "cat-1", lower, 1000, 1500, 0.3)
+    band(picture, "cat-2", lower, 2000, 5000, 0.8)
+    band(picture, "cat-3", upper, 7000000, 47000000, 0.4)
+    same(all(picture.rectangle("cat-%d" % place, "band").height >= 7 for place in (1, 2, 3)), True, "that all are seen")
+    subject(picture, "A", lower, 1250)
+    subject(picture, "B", upper, 3400000)
+    subject(picture, "C", upper, 37000000)
+
+
+def main(paths):
+    for path, check in zip(paths, (sidney, own, cut)):
+        with open(path, "rb") as file:
+            check(Picture(file.read()))
+    print("chart: %d figures of 3 pictures compared" % checks)
+
+
+if __name__ == "__main__":
+    main(sys.argv[1:])
