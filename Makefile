@@ -59,7 +59,7 @@ own := libexec/cession/drawing libexec/cession $(python) lib/cession/python lib/
 
 # The Python module looks for the shared library beside itself first.
 install: $(built)/libcession.a $(built)/libcession.so $(command)
-	@umask 022; for item in $(files); do \
+	@for item in $(files); do \
 		mode=$${item%%:*}; folder=$$DESTDIR$$PREFIX/$${item##*:}; file=$${item#*:}; file=$${file%:*}; \
 		install -d "$$folder" && install -m "$$mode" "$$file" "$$folder" || exit 1; \
 	done; \
