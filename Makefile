@@ -51,6 +51,7 @@ files := \
 	$(patsubst %,644:%:$(python),$(wildcard bindings/python/cession/*.py)) \
 	$(patsubst %,644:examples/hurricane-sidney/%.txt:share/cession/hurricane-sidney,programme events statement) \
 	644:docs/GUIDE.md:share/doc/cession \
+	644:docs/hurricane-sidney.svg:share/doc/cession \
 	644:docs/cession.1:share/man/man1
 
 # Folders that hold nothing else, the inner ones first.

@@ -14,7 +14,8 @@ def tower(tier, limits, gap):
     """Layers with these limits, each at the end of the one before and a gap further."""
     lines, attachment = [], gap
     for place, limit in enumerate(limits):
-        lines.append(layer(tier, attachment, limit, limit // 3, "%d 12550 %d" % (place, 8000 + limit % 997), 1237 * place))
+        back = "%d 12550 %d" % (place, 8000 + limit % 997)
+        lines.append(layer(tier, attachment, limit, limit // 3, back, 1237 * place))
         attachment += limit + gap
     return lines
 
@@ -27,7 +28,8 @@ def losses(count, treaties, amount):
 
 def treaties():
     quotas = ["(quota %d (cede 9999) (capacity %d) (event %d))" % (number, BIG, BIG) for number in (1, 2, 3, 4)]
-    return quotas + ["(surplus %d (retain %d) (lines 100) (event %d))" % (number, BIG - 1, BIG) for number in (5, 6, 7, 8)]
+    return quotas + ["(surplus %d (retain %d) (lines 100) (event %d))" % (number, BIG - 1, BIG)
+                     for number in (5, 6, 7, 8)]
 
 
 def programmes():

@@ -102,7 +102,8 @@ def cut(picture):
     band(picture, "cat-1", lower, 1000, 1500, 0.3)
     band(picture, "cat-2", lower, 2000, 5000, 0.8)
     band(picture, "cat-3", upper, 7000000, 47000000, 0.4)
-    same(all(picture.rectangle("cat-%d" % place, "band").height >= 7 for place in (1, 2, 3)), True, "that all are seen")
+    heights = [picture.rectangle("cat-%d" % place, "band").height for place in (1, 2, 3)]
+    same(min(heights) >= 7, True, "that all are seen")
     subject(picture, "A", lower, 1250)
     subject(picture, "B", upper, 3400000)
     subject(picture, "C", upper, 37000000)
