@@ -56,7 +56,7 @@ class Refused(Exception):
     """A call was turned down; nothing that was lent to it has changed. Its text is a sentence for the person whose
     table, events or call it is about.
 
-    `number` is document 01's number (a `Refusal`, if it has a name here), `second` the line at fault, the length
+    `number` is document 01's number, which equals its name in `Refusal`; `second` is the line at fault, the length
     needed, or 0. What was turned down is the class: `TableRefused`, `ProgrammeRefused`, `BufferTooShort`,
     `StandingRefused` or `EventsRefused`.
 
