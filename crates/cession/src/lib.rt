@@ -49,13 +49,13 @@ pub extern "C" fn cession_run(
     events: &[u8],
     buffer: &mut [u8],
 ) -> Answer
-    ensures { λ r. ⌜ (r ≡ answerOf
-        (runOf programme (now (standing .entry)) (now (events .entry)) (length (now (buffer .entry)))))
-        × (now (standing .exit) ≡ standingAfter
-        (runOf programme (now (standing .entry)) (now (events .entry)) (length (now (buffer .entry))))
+    ensures { λ r. ⌜ (r
+        ≡ answerOf (runOf programme (now (standing .entry)) (now (events .entry)) (length (now (buffer .entry)))))
+        × (now (standing .exit)
+        ≡ standingAfter (runOf programme (now (standing .entry)) (now (events .entry)) (length (now (buffer .entry))))
         (now (standing .entry)))
-        × (now (buffer .exit) ≡ bufferAfter
-        (runOf programme (now (standing .entry)) (now (events .entry)) (length (now (buffer .entry))))
+        × (now (buffer .exit)
+        ≡ bufferAfter (runOf programme (now (standing .entry)) (now (events .entry)) (length (now (buffer .entry))))
         (now (buffer .entry))) ⌝ }
 {
     let lent = *standing;
