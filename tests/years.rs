@@ -12,6 +12,10 @@ mod damage;
 mod draw;
 #[path = "years/random.rs"]
 mod random;
+#[path = "years/table_damage.rs"]
+mod table_damage;
+#[path = "years/totals.rs"]
+mod totals;
 
 use cases::{Case, Cases, File};
 use std::collections::BTreeMap;
@@ -45,7 +49,7 @@ struct Tally {
 impl Tally {
     fn count(&mut self, printed: &[u8]) {
         self.compared += 1;
-        let Some(amounts) = cases::totals(printed) else {
+        let Some(amounts) = totals::totals(printed) else {
             let text = String::from_utf8_lossy(printed);
             let refusal = text.split(' ').nth(1).and_then(|number| number.parse().ok());
             *self.refused.entry(refusal.unwrap_or(u64::MAX)).or_default() += 1;
@@ -56,7 +60,7 @@ impl Tally {
         self.risk += usize::from(amounts[2] > 0);
         self.cat += usize::from(amounts[3] > 0);
         self.premium += usize::from(amounts[5] > 0);
-        self.all += usize::from(cases::has_all(printed));
+        self.all += usize::from(totals::has_all(&amounts));
     }
 
     fn print(&self, seed: u64) {

@@ -4,6 +4,8 @@ use crate::calculation::{printed, EVENTS_BYTES, TABLE_BYTES};
 use crate::damage::{self, Fault};
 use crate::draw::{self, line, Lines, Table};
 use crate::random::Random;
+use crate::table_damage;
+use crate::totals::{has_all, totals};
 
 /// What stands under the name programme.txt.
 pub enum File {
@@ -28,18 +30,6 @@ impl Case {
     pub fn expected(&self) -> Vec<u8> {
         printed(self.table(), &self.events)
     }
-}
-
-/// The amounts of a statement's total line: gross, ceded, risk, cat, net, premium. None for a refusal.
-pub fn totals(statement: &[u8]) -> Option<Vec<u64>> {
-    let text = std::str::from_utf8(statement).ok()?;
-    let total = text.lines().last()?.strip_prefix("(total")?;
-    Some(total.split(|byte: char| !byte.is_ascii_digit()).filter_map(|digits| digits.parse().ok()).collect())
-}
-
-/// Whether a statement has something ceded, recoveries of both tiers and premium.
-pub fn has_all(statement: &[u8]) -> bool {
-    totals(statement).is_some_and(|amounts| [1, 2, 3, 5].iter().all(|place| amounts[*place] > 0))
 }
 
 fn text_case(table: &Lines, events: &Lines) -> Case {
@@ -96,9 +86,9 @@ impl Cases {
         match self.made % 50 {
             1 => self.damaged_table(damage::form),
             2 => self.damaged_table(damage::range),
-            3 => self.damaged_table(damage::order),
-            4 => self.damaged_table(damage::band),
-            5 => self.damaged_table(damage::table_line),
+            3 => self.damaged_table(table_damage::order),
+            4 => self.damaged_table(table_damage::band),
+            5 => self.damaged_table(table_damage::table_line),
             6 => self.damaged_table(damage::line_ends),
             7 => self.damaged_table(damage::bytes),
             8 => self.damaged_events(damage::form),
@@ -115,7 +105,7 @@ impl Cases {
             24 => self.full_table(),
             25 => self.without(),
             26 => self.largest(),
-            27 => self.damaged_table(damage::ninth),
+            27 => self.damaged_table(table_damage::ninth),
             _ => self.year(),
         }
     }
@@ -127,7 +117,8 @@ impl Cases {
     fn draw(&mut self, events: usize) -> (Table, Lines) {
         let scale = self.scale();
         let table = draw::table(&mut self.random, scale);
-        let events = draw::events(&mut self.random, scale, &table, events);
+        let first_day = self.random.pick(&[1, 30, 90, 365, 366]);
+        let events = draw::events(&mut self.random, scale, &table, events, first_day);
         (table, events)
     }
 
@@ -139,7 +130,7 @@ impl Cases {
             let (table, events) = self.draw(count);
             let case = text_case(&table.lines, &events);
             tries -= 1;
-            if tries == 0 || has_all(&case.expected()) {
+            if tries == 0 || totals(&case.expected()).is_some_and(|amounts| has_all(&amounts)) {
                 return case;
             }
         }
@@ -149,7 +140,8 @@ impl Cases {
     fn damaged_table(&mut self, fault: Fault) -> Case {
         let (table, mut events) = self.draw(3);
         let mut lines = table.lines;
-        self.damage(&mut lines, fault, &[damage::form, damage::range, damage::order, damage::band, damage::bytes]);
+        let others = [damage::form, damage::range, table_damage::order, table_damage::band, damage::bytes];
+        self.damage(&mut lines, fault, &others);
         if self.round % 4 == 1 {
             self.damage(&mut events, damage::form, &[damage::bytes]);
         }
@@ -202,22 +194,12 @@ impl Cases {
         text_case(&table, &vec![event])
     }
 
-    /// An events text of 65,536 bytes, or one more or fewer, nearly all of it in events of 64 losses.
+    /// An events text of 65,536 bytes, or one more or fewer.
     fn full_events(&mut self) -> Case {
         let scale = self.scale();
         let table = draw::table(&mut self.random, scale);
         let size = EVENTS_BYTES - 1 + self.round % 3;
-        let mut events = Vec::new();
-        while events.len() + 3_000 < size {
-            let losses = draw::losses(&mut self.random, scale, &table, 64);
-            events.extend(line(format!("(event 366{losses})")));
-        }
-        while events.len() + 51 < size {
-            events.extend(b"(event 366)\n");
-        }
-        let digits = (size - events.len() - 23) as u32;
-        let (most, loss) = (10_u64.pow(digits / 2 - 1), 10_u64.pow(digits - digits / 2 - 1));
-        events.extend(line(format!("(event 366 (loss 0 {most} {loss}))")));
+        let mut events = draw::full_events(&mut self.random, scale, &table, size);
         if self.random.one_in(5) {
             events[0] = b'x';
         }
@@ -266,7 +248,8 @@ impl Cases {
     }
 
     fn largest(&mut self) -> Case {
-        let (table, events) = draw::largest(&mut self.random);
+        let table = draw::largest_table(&mut self.random);
+        let events = draw::largest_events(&mut self.random, 24, 1);
         text_case(&table.lines, &events)
     }
 }

@@ -139,9 +139,9 @@ pub fn losses(random: &mut Random, scale: u64, table: &Table, count: usize) -> S
     forms
 }
 
-/// So many events, days from one to the last.
-pub fn events(random: &mut Random, scale: u64, table: &Table, count: usize) -> Lines {
-    let mut day = random.pick(&[1, 30, 90, 365, 366]);
+/// So many events, days from a first one to the year's last.
+pub fn events(random: &mut Random, scale: u64, table: &Table, count: usize, first_day: u64) -> Lines {
+    let mut day = first_day;
     let mut lines = Lines::new();
     for _ in 0..count {
         let count = random.pick(&[0, 1, 1, 2, 3, 5, 9, 20, 63, 64]);
@@ -152,8 +152,24 @@ pub fn events(random: &mut Random, scale: u64, table: &Table, count: usize) -> L
     lines
 }
 
-/// A table of one layer in each tier at the ends of their ranges, with losses as large as they can be.
-pub fn largest(random: &mut Random) -> (Table, Lines) {
+/// An events text of so many bytes, nearly all of it in events of 64 losses on the year's last day.
+pub fn full_events(random: &mut Random, scale: u64, table: &Table, size: usize) -> Vec<u8> {
+    let mut events = Vec::new();
+    while events.len() + 3_000 < size {
+        let losses = losses(random, scale, table, 64);
+        events.extend(line(format!("(event 366{losses})")));
+    }
+    while events.len() + 51 < size {
+        events.extend(b"(event 366)\n");
+    }
+    let digits = (size - events.len() - 23) as u32;
+    let (most, loss) = (10_u64.pow(digits / 2 - 1), 10_u64.pow(digits - digits / 2 - 1));
+    events.extend(line(format!("(event 366 (loss 0 {most} {loss}))")));
+    events
+}
+
+/// A table of one treaty and one layer in each tier at the ends of their ranges.
+pub fn largest_table(random: &mut Random) -> Table {
     let mut table = Table { treaties: vec![8], ..Table::default() };
     let cede = random.pick(&[1, 9_999]);
     table.lines.push(line(format!("(quota 8 (cede {cede}) (capacity 9999999999999) (event 0))")));
@@ -167,9 +183,13 @@ pub fn largest(random: &mut Random) -> (Table, Lines) {
         let terms = format!("(deduct {deductible}) (back {back} {rate} {premium}) (placed {placed})");
         table.lines.push(line(format!("({tier} (band {attachment} {limit}) {terms})")));
     }
+    table
+}
+
+/// So many events of 64 losses as large as they can be, on days that follow one another.
+pub fn largest_events(random: &mut Random, count: u64, first_day: u64) -> Lines {
     let most = random.pick(&[1, LARGEST_AMOUNT]);
     let mut form = || format!(" (loss {} {most} {LARGEST_AMOUNT})", random.pick(&[0, 0, 8]));
     let forms: String = (0..64).map(|_| form()).collect();
-    let events = (0..24).map(|day| line(format!("(event {}{forms})", day + 1))).collect();
-    (table, events)
+    (0..count).map(|day| line(format!("(event {}{forms})", (first_day + day).min(366)))).collect()
 }
