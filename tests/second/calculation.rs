@@ -616,8 +616,11 @@ impl Standing {
     }
 }
 
-/// Takes over a standing of spent amounts, or refuses it.
+/// Takes over a standing of spent amounts, or refuses the programme or the standing.
 pub fn take_over(programme: &Programme, spent: &Spent) -> Result<Standing, Refusal> {
+    if !programme.is_of_a_table() {
+        return Err((6, 0));
+    }
     let standing = Standing { risk: spent.risk.map(u128::from), cat: spent.cat.map(u128::from), day: spent.day };
     let within = |tier: &[Layer], spent: &[u64]| tier.iter().zip(spent).all(|(layer, spent)| *spent <= layer.cap());
     if standing.is_of(programme) && within(&programme.risk, &spent.risk) && within(&programme.cat, &spent.cat) {
@@ -629,9 +632,6 @@ pub fn take_over(programme: &Programme, spent: &Spent) -> Result<Standing, Refus
 
 /// Opens a year.
 pub fn open(programme: &Programme) -> Result<Standing, Refusal> {
-    if !programme.is_of_a_table() {
-        return Err((6, 0));
-    }
     take_over(programme, &Spent::default())
 }
 
