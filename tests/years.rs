@@ -10,14 +10,19 @@ mod cases;
 mod damage;
 #[path = "years/draw.rs"]
 mod draw;
+#[path = "second/printed.rs"]
+mod printed;
 #[path = "years/random.rs"]
 mod random;
+#[path = "years/show.rs"]
+mod show;
 #[path = "years/table_damage.rs"]
 mod table_damage;
 #[path = "years/totals.rs"]
 mod totals;
 
 use cases::{Case, Cases, File};
+use show::shown;
 use std::collections::BTreeMap;
 use std::io::{self, Write};
 use std::path::{Path, PathBuf};
@@ -29,9 +34,6 @@ const REFUSALS: [u64; 13] = [0, 1, 2, 3, 4, 5, 7, 9, 10, 11, 12, 13, 14];
 
 /// Of a hundred years, how many have cessions, recoveries of both tiers and premium.
 const LEAST_FULL_YEARS: usize = 40;
-
-/// How much of a long text is shown.
-const SHOWN_BYTES: usize = 4_000;
 
 /// What the years compared so far have reached.
 #[derive(Default)]
@@ -122,20 +124,15 @@ fn run(program: &Path, folder: &Path, events: &[u8], piped: bool) -> io::Result<
     }
 }
 
-fn show(name: &str, text: &[u8]) {
-    let shown = &text[..text.len().min(SHOWN_BYTES)];
-    println!("--- {name}, {} bytes\n{}", text.len(), shown.escape_ascii().to_string().replace("\\n", "\\n\n"));
-}
-
 fn report(folder: &Path, case: &Case, expected: &[u8], found: &io::Result<Vec<u8>>) {
     match case.table() {
-        Some(table) => show("table", table),
+        Some(table) => println!("{}", shown("table", table)),
         None => println!("--- no table"),
     }
-    show("events", &case.events);
-    show("second calculation", expected);
+    println!("{}", shown("events", &case.events));
+    println!("{}", shown("second calculation", expected));
     match found {
-        Ok(found) => show("program", found),
+        Ok(found) => println!("{}", shown("program", found)),
         Err(error) => println!("--- program: {error}"),
     }
     println!("--- the whole texts are in {}", folder.display());

@@ -7,7 +7,6 @@ pub type Refusal = (u64, u64);
 
 pub const TABLE_BYTES: usize = 8_192;
 pub const EVENTS_BYTES: usize = 65_536;
-const BUFFER_BYTES: usize = 65_536;
 const MOST_LOSSES: usize = 64;
 const MOST_LAYERS: usize = 8;
 const MOST_TREATIES: u64 = 8;
@@ -658,22 +657,4 @@ pub fn run(
     lent.copy_from_slice(&statement);
     *standing = run.standing(events.last().map_or(standing.day, |event| event.day));
     Ok(statement.len())
-}
-
-fn statement(table: &[u8], events: &[u8]) -> Result<Vec<u8>, Refusal> {
-    let programme = read_table(table)?;
-    let mut standing = open(&programme)?;
-    let mut buffer = vec![0; BUFFER_BYTES];
-    let length = run(&programme, &mut standing, events, &mut buffer)?;
-    buffer.truncate(length);
-    Ok(buffer)
-}
-
-/// What the program prints; without a table its file would not open.
-pub fn printed(table: Option<&[u8]>, events: &[u8]) -> Vec<u8> {
-    let answer = match table {
-        Some(table) => statement(table, events),
-        None => Err((0, 0)),
-    };
-    answer.unwrap_or_else(|(refusal, second)| format!("(refused {refusal} {second})\n").into_bytes())
 }

@@ -2,8 +2,10 @@
 //! ends with status 1 when a figure differs.
 
 mod calculation;
+mod printed;
 
-use calculation::{open, printed, read_table, run, take_over, write_table, Programme, Refusal, Spent, Standing};
+use calculation::{open, read_table, run, take_over, write_table, Programme, Refusal, Spent, Standing};
+use printed::printed;
 
 const SIDNEY_TABLE: &str = "\
 (cat (band 25000000 75000000) (deduct 75000000) (back 0 0 0) (placed 10000))

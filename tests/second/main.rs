@@ -2,6 +2,7 @@
 //! standard input, the statement or the refusal on standard output.
 
 mod calculation;
+mod printed;
 
 use std::fs::File;
 use std::io::{self, Read, Write};
@@ -16,5 +17,5 @@ fn text(source: impl Read, most: usize) -> io::Result<Vec<u8>> {
 fn main() -> io::Result<()> {
     let table = File::open("programme.txt").and_then(|file| text(file, calculation::TABLE_BYTES));
     let events = text(io::stdin(), calculation::EVENTS_BYTES)?;
-    io::stdout().write_all(&calculation::printed(table.as_deref().ok(), &events))
+    io::stdout().write_all(&printed::printed(table.as_deref().ok(), &events))
 }

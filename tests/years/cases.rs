@@ -1,8 +1,9 @@
 //! The cases in turn: years that are accepted, the ends of every range, texts at their greatest length, and damage.
 
-use crate::calculation::{printed, EVENTS_BYTES, TABLE_BYTES};
+use crate::calculation::{EVENTS_BYTES, TABLE_BYTES};
 use crate::damage::{self, Fault};
 use crate::draw::{self, line, Lines, Table};
+use crate::printed::printed;
 use crate::random::Random;
 use crate::table_damage;
 use crate::totals::{has_all, totals};

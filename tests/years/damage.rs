@@ -7,13 +7,14 @@ use crate::random::Random;
 /// Puts a fault into the line at a place.
 pub type Fault = fn(&mut Random, &mut Lines, usize);
 
-type Range = (u64, u64);
+/// The least and the greatest number.
+pub type Range = (u64, u64);
 
-const AMOUNT: Range = (0, LARGEST_AMOUNT);
-const SHARE: Range = (0, 10_000);
+pub const AMOUNT: Range = (0, LARGEST_AMOUNT);
+pub const SHARE: Range = (0, 10_000);
 const QUOTA: [Range; 4] = [(1, 8), SHARE, AMOUNT, AMOUNT];
 const SURPLUS: [Range; 4] = [(1, 8), AMOUNT, (0, 100), AMOUNT];
-const LAYER: [Range; 7] =
+pub const LAYER: [Range; 7] =
     [AMOUNT, (1, LARGEST_AMOUNT), (0, 1_000_000_000_000_000), (0, 20), (0, 20_000), (0, 1_000_000_000_000), SHARE];
 const LOSS: [Range; 3] = [(0, 8), (1, LARGEST_AMOUNT), AMOUNT];
 

@@ -1,0 +1,69 @@
+//! What holds of a history's accepted runs by document 01, read from the statements that the library printed. None of
+//! it follows from the statements being the second calculation's: it would show what both have wrong.
+
+use crate::calculation::Layer;
+use crate::ledger::Ledger;
+use crate::totals::{numbers, totals};
+
+/// The accepted runs so far.
+#[derive(Default)]
+pub struct Accepted {
+    pub totals: [u64; 6],
+    gross: u64,
+    last: String,
+    had_another_programme: bool,
+}
+
+/// The numbers of a tier's lines: place, deductible left, cover left, recovered, premium.
+fn tier(statement: &str, word: &str) -> Vec<Vec<u64>> {
+    statement.lines().filter_map(|line| line.strip_prefix(word)).map(numbers).collect()
+}
+
+fn sum(lines: &[Vec<u64>], column: usize) -> u64 {
+    lines.iter().map(|line| line[column]).sum()
+}
+
+fn equal(name: &str, found: u64, expected: u64) -> Result<(), String> {
+    if found == expected {
+        return Ok(());
+    }
+    Err(format!("of the whole history, {name}: found {found}, expected {expected}"))
+}
+
+/// Document 01, Layers: used × s / 10,000 of a sum of losses.
+fn recovered(layer: &Layer, sum: u128) -> u64 {
+    let (deductible, cap) = (u128::from(layer.deductible), u128::from(layer.cap()));
+    let used = sum.clamp(deductible, cap) - deductible;
+    (used * u128::from(layer.placed) / 10_000) as u64
+}
+
+impl Accepted {
+    pub fn add(&mut self, events: &[u8], statement: &[u8], is_of_another_programme: bool) {
+        for (total, amount) in self.totals.iter_mut().zip(totals(statement).unwrap_or_default()) {
+            *total += amount;
+        }
+        let losses = |line: &str| numbers(line).iter().skip(3).step_by(3).sum::<u64>();
+        self.gross += String::from_utf8_lossy(events).lines().map(losses).sum::<u64>();
+        self.last = String::from_utf8_lossy(statement).into_owned();
+        self.had_another_programme |= is_of_another_programme;
+    }
+
+    pub fn check(&self, ledger: &Ledger) -> Result<(), String> {
+        if self.last.is_empty() {
+            return Ok(());
+        }
+        let [gross, ceded, risk, cat, net, premium] = self.totals;
+        equal("gross", gross, self.gross)?;
+        equal("net, ceded and recoveries", net + ceded + risk + cat, gross)?;
+        let (risk_lines, cat_lines) = (tier(&self.last, "(layer risk"), tier(&self.last, "(layer cat"));
+        for ((layer, sum), line) in ledger.layers().zip(risk_lines.iter().chain(&cat_lines)) {
+            equal("a layer's recoveries", line[3], recovered(layer, sum))?;
+        }
+        if self.had_another_programme {
+            return Ok(());
+        }
+        equal("risk recoveries", risk, sum(&risk_lines, 3))?;
+        equal("cat recoveries", cat, sum(&cat_lines, 3))?;
+        equal("premium", premium, sum(&risk_lines, 4) + sum(&cat_lines, 4))
+    }
+}
