@@ -38,7 +38,8 @@ fn count(random: &mut Random, count: usize) -> usize {
 
 /// A place, most often one that is used.
 fn place(random: &mut Random, used: usize) -> usize {
-    random.place(if used == 0 || random.one_in(4) { 8 } else { used })
+    let any = used == 0 || random.one_in(4);
+    random.place(if any { 8 } else { used })
 }
 
 fn treaties(random: &mut Random, treaties: &mut raw::Treaties) {

@@ -1,0 +1,102 @@
+//! Random histories: runs that are lent one standing, refused ones among them, through the library's calls, each
+//! compared with the second calculation's ledger. Called as `histories SEED COUNT`, or as `histories SEED only NUMBER`
+//! for one history of the seed. Ends with status 1 at the first difference, and when the histories of the seed do not
+//! reach all that they should.
+
+#[path = "histories/accepted.rs"]
+mod accepted;
+#[path = "histories/aim.rs"]
+mod aim;
+#[path = "histories/boundary.rs"]
+mod boundary;
+#[path = "second/calculation.rs"]
+mod calculation;
+#[path = "histories/corrupt.rs"]
+mod corrupt;
+#[path = "years/damage.rs"]
+mod damage;
+#[path = "years/draw.rs"]
+mod draw;
+#[path = "histories/history.rs"]
+mod history;
+#[path = "histories/in_two.rs"]
+mod in_two;
+#[path = "histories/ledger.rs"]
+mod ledger;
+#[path = "years/random.rs"]
+mod random;
+#[path = "../bindings/rust/src/raw.rs"]
+mod raw;
+#[path = "histories/records.rs"]
+mod records;
+#[path = "histories/runs.rs"]
+mod runs;
+#[path = "years/show.rs"]
+mod show;
+#[path = "histories/tally.rs"]
+mod tally;
+#[path = "years/totals.rs"]
+mod totals;
+
+use history::{Difference, History};
+use random::Random;
+use std::env;
+use std::process::exit;
+use tally::Tally;
+
+/// Each history draws from a seed of its own, so that it can be run again alone.
+fn seeds(seed: u64) -> impl Iterator<Item = u64> {
+    let mut random = Random(seed);
+    std::iter::repeat_with(move || random.between(0, u64::MAX - 1))
+}
+
+fn compare(seed: u64, tally: &mut Tally) -> Result<(), Difference> {
+    let mut random = Random(seed);
+    let runs = random.between(3, 12);
+    let mut history = History::open(random)?;
+    for number in 1..=runs {
+        history.run(tally).map_err(|found| format!("run {number}\n{found}"))?;
+    }
+    history.end(tally)
+}
+
+fn compare_or_exit(seed: u64, number: usize, history: u64, tally: &mut Tally) {
+    if let Err(found) = compare(history, tally) {
+        println!("histories: seed {seed}, history {number} differs, {found}");
+        println!("--- again: histories {seed} only {number}");
+        exit(1);
+    }
+}
+
+fn usage() -> ! {
+    eprintln!("histories: call as histories SEED COUNT or histories SEED only NUMBER");
+    exit(2);
+}
+
+/// The seed, the first history and the last, counted from 1, and whether they are to reach all that they should.
+fn arguments() -> Option<(u64, usize, usize, bool)> {
+    let arguments: Vec<String> = env::args().skip(1).collect();
+    let words: Vec<&str> = arguments.iter().map(String::as_str).collect();
+    match words.as_slice() {
+        [seed, count] => Some((seed.parse().ok()?, 1, count.parse().ok()?, true)),
+        [seed, "only", number] => {
+            let number = number.parse().ok().filter(|number| *number > 0)?;
+            Some((seed.parse().ok()?, number, number, false))
+        }
+        _ => None,
+    }
+}
+
+fn main() {
+    let Some((seed, first, last, is_whole)) = arguments() else { usage() };
+    let mut tally = Tally::default();
+    for (history, number) in seeds(seed).zip(1..=last).skip(first - 1) {
+        compare_or_exit(seed, number, history, &mut tally);
+    }
+    tally.print(seed);
+    let missing = if is_whole { tally.missing() } else { Vec::new() };
+    for line in &missing {
+        println!("histories: {line}");
+    }
+    exit(i32::from(!missing.is_empty()));
+}

@@ -1,0 +1,115 @@
+//! What the histories compared so far have reached.
+
+use crate::aim::turns;
+use crate::ledger::Ledger;
+use crate::raw::{Answer, Programme};
+use crate::runs::Run;
+use crate::totals::has_all;
+use std::collections::BTreeMap;
+
+/// The refusals that a run can give.
+const REFUSALS: [u64; 9] = [6, 7, 8, 9, 10, 11, 12, 13, 14];
+
+/// One run in so many histories is to have each refusal.
+const HISTORIES_A_REFUSAL: usize = 20;
+
+/// Of a hundred histories, how many have cessions, recoveries of both tiers and premium.
+const LEAST_FULL: usize = 40;
+
+/// Of a hundred histories, how many have a layer that reaches each turn.
+const LEAST_REACHED: usize = 60;
+
+/// Of a hundred histories, how many have a layer that a run leaves just at each turn.
+const LEAST_MET: usize = 10;
+
+/// By a layer's turns: the deductible used up, the reinstatements used up, the cap.
+type ByTurn = [usize; 3];
+
+#[derive(Default)]
+pub struct Tally {
+    histories: usize,
+    runs: usize,
+    accepted: usize,
+    refused: BTreeMap<u64, usize>,
+    /// Runs accepted with a programme or a standing changed in one field.
+    changed: usize,
+    fitting: usize,
+    one_short: usize,
+    pub cuts: usize,
+    full: usize,
+    reached: ByTurn,
+    met: ByTurn,
+    /// Of the history under way.
+    reaches: [bool; 3],
+    meets: [bool; 3],
+}
+
+impl Tally {
+    pub fn count_run(&mut self, run: &Run, programme: &Programme, answer: Answer) {
+        let length = run.room.clone().lent().len() as u64;
+        self.runs += 1;
+        if answer.refusal == 0 {
+            self.accepted += 1;
+            self.changed += usize::from(run.standing.is_some() || run.programme != *programme);
+            self.fitting += usize::from(answer.number == length);
+        } else {
+            *self.refused.entry(answer.refusal).or_default() += 1;
+            self.one_short += usize::from(answer.refusal == 7 && answer.number == length + 1);
+        }
+    }
+
+    /// The turns that the layers have come to, after an accepted run.
+    pub fn count_turns(&mut self, ledger: &Ledger) {
+        for (layer, sum) in ledger.layers() {
+            for (place, turn) in turns(layer).into_iter().enumerate() {
+                let Some(turn) = turn.map(u128::from) else { continue };
+                self.reaches[place] |= sum >= turn;
+                self.meets[place] |= sum == turn;
+            }
+        }
+    }
+
+    pub fn count_history(&mut self, totals: &[u64]) {
+        self.histories += 1;
+        self.full += usize::from(has_all(totals));
+        for place in 0..3 {
+            self.reached[place] += usize::from(self.reaches[place]);
+            self.met[place] += usize::from(self.meets[place]);
+        }
+        (self.reaches, self.meets) = Default::default();
+    }
+
+    pub fn print(&self, seed: u64) {
+        let Tally { histories, runs, accepted, changed, .. } = self;
+        print!("histories: seed {seed}, {histories} compared, {runs} runs: accepted {accepted}");
+        for (refusal, count) in &self.refused {
+            print!(", {refusal}: {count}");
+        }
+        println!("; accepted with a field changed {changed}; in two runs {} cuts", self.cuts);
+        print!("histories: buffers that just fit {}, one byte short {}; ", self.fitting, self.one_short);
+        print!("histories with cessions, both recoveries and premium {}; used up, and just so: ", self.full);
+        let names = ["deductible", "reinstatements", "cap"];
+        let counts = names.iter().zip(self.reached).zip(self.met);
+        let counts: Vec<String> = counts.map(|((name, reached), met)| format!("{name} {reached}, {met}")).collect();
+        println!("{}", counts.join("; "));
+    }
+
+    /// What the histories should have reached and did not.
+    pub fn missing(&self) -> Vec<String> {
+        let mut missing = Vec::new();
+        for refusal in REFUSALS {
+            let count = self.refused.get(&refusal).copied().unwrap_or(0);
+            if count * HISTORIES_A_REFUSAL < self.histories {
+                missing.push(format!("too few runs refused with {refusal}: {count}"));
+            }
+        }
+        if self.full * 100 < self.histories * LEAST_FULL {
+            missing.push("too few histories with cessions, recoveries of both tiers and premium".to_string());
+        }
+        let too_few = |counts: ByTurn, least| counts.iter().any(|count| count * 100 < self.histories * least);
+        if too_few(self.reached, LEAST_REACHED) || too_few(self.met, LEAST_MET) {
+            missing.push("too few histories with deductible, reinstatements or cap used up, or just so".to_string());
+        }
+        missing
+    }
+}
