@@ -41,6 +41,7 @@ mod totals;
 use history::{Difference, History};
 use random::Random;
 use std::env;
+use std::panic::{catch_unwind, AssertUnwindSafe};
 use std::process::exit;
 use tally::Tally;
 
@@ -61,7 +62,9 @@ fn compare(seed: u64, tally: &mut Tally) -> Result<(), Difference> {
 }
 
 fn compare_or_exit(seed: u64, number: usize, history: u64, tally: &mut Tally) {
-    if let Err(found) = compare(history, tally) {
+    // An assertion of the second calculation that fails has printed what it is by then.
+    let compared = catch_unwind(AssertUnwindSafe(|| compare(history, tally)));
+    if let Err(found) = compared.unwrap_or_else(|_| Err("an assertion failed".to_string())) {
         println!("histories: seed {seed}, history {number} differs, {found}");
         println!("--- again: histories {seed} only {number}");
         exit(1);

@@ -93,7 +93,7 @@ impl History {
     /// The next run: lends the standing, compares what is left, and puts the standing back if it was a changed one.
     pub fn run(&mut self, tally: &mut Tally) -> Result<(), Difference> {
         let run = self.runs.next(&self.programme, &self.ledger);
-        let before = self.lent;
+        let (before, ledger) = (self.lent, self.ledger.clone());
         if let Some(changed) = run.standing {
             self.lent.standing = changed;
         }
@@ -109,6 +109,7 @@ impl History {
         if run.standing.is_some() {
             self.lent = before;
         } else if answer.refusal == 0 {
+            tally.count_turns(&ledger, &self.ledger);
             self.take_in(&run, &lent, &found, tally)?;
         }
         Ok(())
@@ -124,7 +125,6 @@ impl History {
     ) -> Result<(), Difference> {
         let length = left.answer.number as usize;
         self.accepted.add(&run.events, left.room.text(length), run.programme != self.programme);
-        tally.count_turns(&self.ledger);
         let lines = run.events.iter().filter(|byte| **byte == b'\n').count();
         if lines > 0 && lines <= MOST_LINES_IN_TWO && self.runs.random.one_in(3) {
             let in_two = InTwo { programme: &run.programme, from: *from, events: &run.events, length };
@@ -156,9 +156,12 @@ impl History {
             lines.push(format!("--- {name}: {:?}\n{:?}", left.answer, left.lent.standing));
             lines.push(shown("statement", &text));
         }
+        if found.lent != Lent::new(found.lent.standing) {
+            lines.push("--- something beside the standing was written to".to_string());
+        }
         if let Some(place) = found.room.first_difference(&expected.room) {
             let length = found.room.clone().lent().len();
-            lines.push(format!("--- the buffers of {length} bytes differ first at byte {place} from the first one lent"));
+            lines.push(format!("--- the buffers, {length} bytes lent, differ first at byte {place}, counted from 0"));
         }
         lines.join("\n")
     }

@@ -63,20 +63,30 @@ const FAULTS: [Fault; 9] = [
     damage::bytes,
 ];
 
+/// The losses of a history's runs: with few of them deductibles and covers last for several runs.
+#[derive(Clone, Copy, PartialEq, Eq)]
+enum Losses {
+    Few,
+    Many,
+    Largest,
+}
+
 /// Draws the runs of one history.
 pub struct Runs {
     pub random: Random,
     pub table: Table,
     scale: u64,
-    is_largest: bool,
+    losses: Losses,
 }
 
 impl Runs {
     pub fn new(mut random: Random) -> Self {
-        let is_largest = random.one_in(20);
+        let few_or_many = random.pick(&[Losses::Few, Losses::Few, Losses::Many]);
+        let losses = if random.one_in(20) { Losses::Largest } else { few_or_many };
+        let is_largest = losses == Losses::Largest;
         let scale = if is_largest { LARGEST_AMOUNT } else { random.pick(&SCALES) };
         let table = if is_largest { draw::largest_table(&mut random) } else { table(&mut random, scale) };
-        Runs { random, table, scale, is_largest }
+        Runs { random, table, scale, losses }
     }
 
     /// The next run, from where the ledger stands.
@@ -120,10 +130,10 @@ impl Runs {
             }
         }
         let count = random.pick(&[1, 1, 2, 3, 5, 8]);
-        if self.is_largest {
-            draw::largest_events(random, count, day)
-        } else {
-            draw::events(random, self.scale, &self.table, count as usize, day)
+        match self.losses {
+            Losses::Few => few(random, self.scale, &self.table, day),
+            Losses::Many => draw::events(random, self.scale, &self.table, count, day),
+            Losses::Largest => draw::largest_events(random, count as u64, day),
         }
     }
 
@@ -153,8 +163,9 @@ impl Runs {
             return random.pick(&[0, 1, 200, 5_000]);
         };
         let length = if is_short {
-            let shorter = random.between(0, needed - 1);
-            random.pick(&[0, needed - 1, needed - 1, shorter])
+            let one_short = needed.saturating_sub(1);
+            let shorter = random.between(0, one_short);
+            random.pick(&[0, one_short, one_short, shorter])
         } else {
             needed + random.pick(&[0, 0, 1, 137, 4_000])
         };
@@ -173,6 +184,17 @@ fn table(random: &mut Random, scale: u64) -> Table {
             return table;
         }
     }
+}
+
+/// An event or two with a loss or two.
+fn few(random: &mut Random, scale: u64, table: &Table, first_day: u64) -> Lines {
+    let mut lines = Lines::new();
+    for later in 0..random.between(1, 2) {
+        let count = random.pick(&[1, 1, 2]);
+        let losses = draw::losses(random, scale, table, count);
+        lines.push(line(format!("(event {}{losses})", (first_day + later).min(LAST_DAY))));
+    }
+    lines
 }
 
 /// A day before the standing's, or the same one, on the first line.

@@ -14,13 +14,13 @@ const REFUSALS: [u64; 9] = [6, 7, 8, 9, 10, 11, 12, 13, 14];
 const HISTORIES_A_REFUSAL: usize = 20;
 
 /// Of a hundred histories, how many have cessions, recoveries of both tiers and premium.
-const LEAST_FULL: usize = 40;
+const LEAST_FULL: usize = 30;
 
-/// Of a hundred histories, how many have a layer that reaches each turn.
-const LEAST_REACHED: usize = 60;
+/// Of a hundred histories, how many have a layer that an earlier run brought a loss and that comes to each turn.
+const LEAST_REACHED: usize = 20;
 
 /// Of a hundred histories, how many have a layer that a run leaves just at each turn.
-const LEAST_MET: usize = 10;
+const LEAST_MET: usize = 15;
 
 /// By a layer's turns: the deductible used up, the reinstatements used up, the cap.
 type ByTurn = [usize; 3];
@@ -58,13 +58,13 @@ impl Tally {
         }
     }
 
-    /// The turns that the layers have come to, after an accepted run.
-    pub fn count_turns(&mut self, ledger: &Ledger) {
-        for (layer, sum) in ledger.layers() {
+    /// The turns that the layers have come to in an accepted run.
+    pub fn count_turns(&mut self, before: &Ledger, after: &Ledger) {
+        for ((_, before), (layer, after)) in before.layers().zip(after.layers()) {
             for (place, turn) in turns(layer).into_iter().enumerate() {
                 let Some(turn) = turn.map(u128::from) else { continue };
-                self.reaches[place] |= sum >= turn;
-                self.meets[place] |= sum == turn;
+                self.reaches[place] |= before > 0 && before < turn && turn <= after;
+                self.meets[place] |= before < turn && turn == after;
             }
         }
     }
@@ -87,7 +87,7 @@ impl Tally {
         }
         println!("; accepted with a field changed {changed}; in two runs {} cuts", self.cuts);
         print!("histories: buffers that just fit {}, one byte short {}; ", self.fitting, self.one_short);
-        print!("histories with cessions, both recoveries and premium {}; used up, and just so: ", self.full);
+        print!("histories with cessions, both recoveries and premium {}; used up by a later run, and just so: ", self.full);
         let names = ["deductible", "reinstatements", "cap"];
         let counts = names.iter().zip(self.reached).zip(self.met);
         let counts: Vec<String> = counts.map(|((name, reached), met)| format!("{name} {reached}, {met}")).collect();
