@@ -1,7 +1,7 @@
 //! What holds of a history's accepted runs by document 01, read from the statements that the library printed. None of
 //! it follows from the statements being the second calculation's: it would show what both have wrong.
 
-use crate::calculation::Layer;
+use crate::calculation::table::Layer;
 use crate::ledger::Ledger;
 use crate::totals::{numbers, totals};
 

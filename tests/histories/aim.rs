@@ -1,6 +1,6 @@
 //! Events that bring a layer's spent amount to an amount at which its figures change their course.
 
-use crate::calculation::Layer;
+use crate::calculation::table::Layer;
 use crate::draw::{line, Lines, LARGEST_AMOUNT};
 use crate::ledger::Ledger;
 use crate::random::Random;

@@ -1,6 +1,6 @@
 //! Programmes and standings changed in one field. Most are refused; some are another programme or standing.
 
-use crate::calculation::{Layer, Programme};
+use crate::calculation::table::{Layer, Programme};
 use crate::damage::{Range, AMOUNT, LAYER, SHARE};
 use crate::random::Random;
 use crate::raw;

@@ -50,7 +50,7 @@ fn open(random: &mut Random, table: &[u8]) -> Result<(raw::Programme, Ledger), D
     if boundary::read(table) != (Reading { refusal: 0, line: 0, programme: record }) {
         return Err(differs("reading"));
     }
-    let text = calculation::write_table(&programme);
+    let text = calculation::table::write_table(&programme);
     let mut room = Room::new(random, text.len() + 1);
     let mut expected = room.clone();
     expected.lent()[..text.len()].copy_from_slice(&text);

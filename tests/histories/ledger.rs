@@ -1,6 +1,7 @@
 //! The second calculation's side of a history: uncut sums, fed by the accepted runs alone.
 
-use crate::calculation::{self, take_over, Layer, Programme, Refusal, Standing};
+use crate::calculation::table::{Layer, Programme};
+use crate::calculation::{self, take_over, Refusal, Standing};
 use crate::raw;
 use crate::records;
 

@@ -1,6 +1,7 @@
 //! Programmes and standings in the library's records and in the second calculation's.
 
-use crate::calculation::{Layer, Programme, Spent, Standing, Terms, Treaty};
+use crate::calculation::table::{Layer, Programme, Terms, Treaty};
+use crate::calculation::{Spent, Standing};
 use crate::raw;
 
 const QUOTA: u64 = 1;

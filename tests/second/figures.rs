@@ -4,7 +4,8 @@
 mod calculation;
 mod printed;
 
-use calculation::{open, read_table, run, take_over, write_table, Programme, Refusal, Spent, Standing};
+use calculation::table::write_table;
+use calculation::{open, read_table, run, take_over, Programme, Refusal, Spent, Standing};
 use printed::printed;
 
 const SIDNEY_TABLE: &str = "\

@@ -15,7 +15,7 @@ fn text(source: impl Read, most: usize) -> io::Result<Vec<u8>> {
 }
 
 fn main() -> io::Result<()> {
-    let table = File::open("programme.txt").and_then(|file| text(file, calculation::TABLE_BYTES));
+    let table = File::open("programme.txt").and_then(|file| text(file, calculation::table::TABLE_BYTES));
     let events = text(io::stdin(), calculation::EVENTS_BYTES)?;
     io::stdout().write_all(&printed::printed(table.as_deref().ok(), &events))
 }

@@ -1,6 +1,7 @@
 //! The cases in turn: years that are accepted, the ends of every range, texts at their greatest length, and damage.
 
-use crate::calculation::{EVENTS_BYTES, TABLE_BYTES};
+use crate::calculation::table::TABLE_BYTES;
+use crate::calculation::EVENTS_BYTES;
 use crate::damage::{self, Fault};
 use crate::draw::{self, line, Lines, Table};
 use crate::printed::printed;

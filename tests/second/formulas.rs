@@ -1,0 +1,133 @@
+//! Treaties and layers: what is ceded, recovered, kept and charged.
+
+use super::events::Loss;
+use super::table::{Layer, Terms, Treaty, WHOLE};
+
+impl Treaty {
+    /// The share of a covered loss that is ceded, as a fraction: numerator and denominator.
+    fn ceded_share(&self, maximum: u64) -> (u64, u64) {
+        match self.terms {
+            Terms::Quota { cede, capacity } if capacity == 0 || maximum <= capacity => (cede, WHOLE),
+            Terms::Quota { cede, capacity } => (cede * capacity, WHOLE * maximum),
+            Terms::Surplus { retention, .. } if maximum <= retention => (0, 1),
+            Terms::Surplus { retention, lines } if maximum > retention * (1 + lines) => (lines * retention, maximum),
+            Terms::Surplus { retention, .. } => (maximum - retention, maximum),
+        }
+    }
+
+    /// What is ceded of a loss when losses of `earlier` in all came before it in the event.
+    pub fn ceded(&self, loss: &Loss, earlier: u64) -> u64 {
+        let covered = match self.event_limit {
+            0 => loss.amount,
+            limit => loss.amount.min(limit.saturating_sub(earlier)),
+        };
+        let (share, whole) = self.ceded_share(loss.maximum);
+        (u128::from(covered) * u128::from(share) / u128::from(whole)) as u64
+    }
+}
+
+impl Layer {
+    pub fn cap(&self) -> u64 {
+        self.deductible + self.limit * (self.reinstatements + 1)
+    }
+
+    /// The sum of losses, cut off at the cap.
+    pub fn spent(&self, sum: u128) -> u64 {
+        sum.min(u128::from(self.cap())) as u64
+    }
+
+    fn used(&self, sum: u128) -> u64 {
+        self.spent(sum).saturating_sub(self.deductible)
+    }
+
+    fn at_placed_share(&self, amount: u64) -> u64 {
+        amount * self.placed / WHOLE
+    }
+
+    fn recovered(&self, sum: u128) -> u64 {
+        self.at_placed_share(self.used(sum))
+    }
+
+    /// What the insurer keeps of the sum: the deductible eaten, the share not placed with the remainder of its
+    /// rounding, and what passes the cap.
+    fn kept(&self, sum: u128) -> u128 {
+        let eaten = sum.min(u128::from(self.deductible));
+        let not_placed = (self.used(sum) * (WHOLE - self.placed)).div_ceil(WHOLE);
+        let past_cap = sum - u128::from(self.spent(sum));
+        eaten + u128::from(not_placed) + past_cap
+    }
+
+    fn reinstatement_premium(&self, sum: u128) -> u64 {
+        let reinstated = self.used(sum).min(self.reinstatements * self.limit);
+        let price = u128::from(self.rate) * u128::from(self.premium);
+        (u128::from(self.at_placed_share(reinstated)) * price / u128::from(WHOLE * self.limit)) as u64
+    }
+}
+
+/// A layer's sum in a run, with the year's figures from that sum.
+pub struct Account<'a> {
+    pub layer: &'a Layer,
+    pub sum: u128,
+    pub recovered: u64,
+    kept: u128,
+    pub premium: u64,
+    charged_sum: u128,
+}
+
+impl<'a> Account<'a> {
+    fn new(layer: &'a Layer, sum: u128) -> Self {
+        Account {
+            layer,
+            sum,
+            recovered: layer.recovered(sum),
+            kept: layer.kept(sum),
+            premium: layer.reinstatement_premium(sum),
+            charged_sum: sum,
+        }
+    }
+
+    /// Brings the layer a loss; gives what is recovered and what is kept of it.
+    fn bring(&mut self, loss: u64) -> (u64, u64) {
+        let (recovered, kept) = (self.recovered, self.kept);
+        self.sum += u128::from(loss);
+        self.recovered = self.layer.recovered(self.sum);
+        self.kept = self.layer.kept(self.sum);
+        (self.recovered - recovered, (self.kept - kept) as u64)
+    }
+
+    /// The reinstatement premium for the losses brought since it was last charged: the sum of each loss's premium is
+    /// the year's figure after the last less the figure before the first.
+    pub fn charge(&mut self) -> u64 {
+        if self.sum == self.charged_sum {
+            return 0;
+        }
+        let before = self.premium;
+        self.premium = self.layer.reinstatement_premium(self.sum);
+        self.charged_sum = self.sum;
+        self.premium - before
+    }
+}
+
+pub fn accounts<'a>(tier: &'a [Layer], sums: &[u128]) -> Vec<Account<'a>> {
+    tier.iter().zip(sums).map(|(layer, sum)| Account::new(layer, *sum)).collect()
+}
+
+/// Takes one subject amount through a tier; gives what its layers pay and what the insurer keeps: the parts outside
+/// the bands and what it keeps inside each.
+pub fn through(tier: &mut [Account], subject: u64) -> (u64, u64) {
+    let mut paid = 0;
+    let mut kept = 0;
+    let mut reached = 0;
+    for account in tier {
+        let Layer { attachment, limit, .. } = *account.layer;
+        if subject <= attachment {
+            break;
+        }
+        let end = subject.min(attachment + limit);
+        let (recovered, inside) = account.bring(end - attachment);
+        kept += attachment - reached + inside;
+        paid += recovered;
+        reached = end;
+    }
+    (paid, kept + subject - reached)
+}

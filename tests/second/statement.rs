@@ -1,0 +1,167 @@
+//! A run of events that were read: event by event through treaties and layers, and the statement's text.
+
+use super::events::{Event, Loss};
+use super::formulas::{accounts, through, Account};
+use super::table::{Programme, MOST_TREATIES};
+use super::Standing;
+
+#[derive(Clone, Copy, Default)]
+struct Amounts {
+    gross: u64,
+    ceded: u64,
+    risk: u64,
+    cat: u64,
+    net: u64,
+    premium: u64,
+}
+
+impl Amounts {
+    fn add(&mut self, event: &Amounts) {
+        self.gross += event.gross;
+        self.ceded += event.ceded;
+        self.risk += event.risk;
+        self.cat += event.cat;
+        self.net += event.net;
+        self.premium += event.premium;
+    }
+}
+
+/// A run under way.
+pub struct Run<'a> {
+    programme: &'a Programme,
+    ceded: Vec<u64>,
+    risk: Vec<Account<'a>>,
+    cat: Vec<Account<'a>>,
+}
+
+impl<'a> Run<'a> {
+    pub fn new(programme: &'a Programme, standing: &Standing) -> Self {
+        Run {
+            programme,
+            ceded: vec![0; programme.treaties.len()],
+            risk: accounts(&programme.risk, &standing.risk),
+            cat: accounts(&programme.cat, &standing.cat),
+        }
+    }
+
+    fn event(&mut self, losses: &[Loss]) -> Amounts {
+        let mut amounts = Amounts::default();
+        let mut earlier = [0; MOST_TREATIES as usize];
+        let mut subject = 0;
+        for loss in losses {
+            let mut left = loss.amount;
+            if let Some(place) = self.programme.treaty(loss.treaty) {
+                let ceded = self.programme.treaties[place].ceded(loss, earlier[place]);
+                earlier[place] += loss.amount;
+                self.ceded[place] += ceded;
+                amounts.ceded += ceded;
+                left -= ceded;
+            }
+            let (recovered, kept) = through(&mut self.risk, left);
+            amounts.gross += loss.amount;
+            amounts.risk += recovered;
+            subject += kept;
+        }
+        (amounts.cat, amounts.net) = through(&mut self.cat, subject);
+        amounts.premium = self.risk.iter_mut().chain(&mut self.cat).map(Account::charge).sum();
+        debug_assert_eq!(amounts.gross, amounts.net + amounts.ceded + amounts.risk + amounts.cat);
+        amounts
+    }
+
+    pub fn statement(&mut self, events: &[Event]) -> Vec<u8> {
+        let mut text = Text(Vec::with_capacity(128 * (events.len() + 32)));
+        let mut total = Amounts::default();
+        for event in events {
+            let amounts = self.event(&event.losses);
+            total.add(&amounts);
+            text.word("(event ");
+            text.number(event.day);
+            text.amounts(&amounts);
+        }
+        for (treaty, ceded) in self.programme.treaties.iter().zip(&self.ceded) {
+            text.word("(treaty ");
+            text.number(treaty.number);
+            text.items(&[("ceded", *ceded)]);
+        }
+        text.tier("risk", &self.risk);
+        text.tier("cat", &self.cat);
+        text.word("(total");
+        text.amounts(&total);
+        text.0
+    }
+
+    pub fn standing(&self, day: u64) -> Standing {
+        let mut standing = Standing { day, ..Standing::default() };
+        for (sum, account) in standing.risk.iter_mut().zip(&self.risk) {
+            *sum = account.sum;
+        }
+        for (sum, account) in standing.cat.iter_mut().zip(&self.cat) {
+            *sum = account.sum;
+        }
+        standing
+    }
+}
+
+struct Text(Vec<u8>);
+
+impl Text {
+    fn word(&mut self, word: &str) {
+        self.0.extend_from_slice(word.as_bytes());
+    }
+
+    fn number(&mut self, number: u64) {
+        let mut digits = [0; 20];
+        let mut first = digits.len();
+        let mut rest = number;
+        loop {
+            first -= 1;
+            digits[first] = b'0' + (rest % 10) as u8;
+            rest /= 10;
+            if rest == 0 {
+                break;
+            }
+        }
+        self.0.extend_from_slice(&digits[first..]);
+    }
+
+    /// Named numbers and the end of the line.
+    fn items(&mut self, items: &[(&str, u64)]) {
+        for (name, number) in items {
+            self.word(" (");
+            self.word(name);
+            self.word(" ");
+            self.number(*number);
+            self.word(")");
+        }
+        self.word(")\n");
+    }
+
+    fn amounts(&mut self, amounts: &Amounts) {
+        let Amounts { gross, ceded, risk, cat, net, premium } = *amounts;
+        self.items(&[
+            ("gross", gross),
+            ("ceded", ceded),
+            ("risk", risk),
+            ("cat", cat),
+            ("net", net),
+            ("premium", premium),
+        ]);
+    }
+
+    fn tier(&mut self, name: &str, tier: &[Account]) {
+        for (account, place) in tier.iter().zip(1..) {
+            let layer = account.layer;
+            let spent = layer.spent(account.sum);
+            self.word("(layer ");
+            self.word(name);
+            self.word(" ");
+            self.number(place);
+            self.items(&[
+                ("deductible", layer.deductible.saturating_sub(spent)),
+                ("cover", layer.cap() - spent.max(layer.deductible)),
+                ("recovered", account.recovered),
+                ("premium", account.premium),
+            ]);
+        }
+    }
+}
