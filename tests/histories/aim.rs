@@ -1,4 +1,4 @@
-//! Events that bring a layer's spent amount to an amount at which its figures change their course.
+//! Events that bring a layer's spent amount just to one of its bounds.
 
 use crate::calculation::table::Layer;
 use crate::draw::{line, Lines, LARGEST_AMOUNT};
@@ -6,10 +6,12 @@ use crate::ledger::Ledger;
 use crate::random::Random;
 
 const MOST_LOSSES: u64 = 64;
-const MOST_EVENTS: u64 = 30;
+
+/// No more whole limits than this are brought to a layer at once.
+const MOST_LIMITS: u64 = 30;
 
 /// The spent amounts at which the deductible is used up, the reinstatements are, and the cap is reached.
-pub fn turns(layer: &Layer) -> [Option<u64>; 3] {
+pub fn bounds(layer: &Layer) -> [Option<u64>; 3] {
     let Layer { limit, deductible, reinstatements, .. } = *layer;
     let deducted = (deductible > 0).then_some(deductible);
     let reinstated = (reinstatements > 0).then_some(deductible + reinstatements * limit);
@@ -18,8 +20,7 @@ pub fn turns(layer: &Layer) -> [Option<u64>; 3] {
 
 /// The subject amounts that bring a layer so much in all: as many whole limits as it takes, then the rest.
 fn subjects(layer: &Layer, amount: u64) -> Vec<u64> {
-    let whole = (amount / layer.limit).min(MOST_LOSSES) as usize;
-    let mut subjects = vec![layer.attachment + layer.limit; whole];
+    let mut subjects = vec![layer.attachment + layer.limit; (amount / layer.limit) as usize];
     subjects.push(layer.attachment + amount % layer.limit);
     subjects
 }
@@ -42,19 +43,19 @@ fn below_risk(ledger: &Ledger, amount: u64) -> Option<Vec<u64>> {
     Some(losses)
 }
 
-/// Lines that leave a layer at one of its turns, or one cent beside it; none if a few events cannot.
+/// Lines that leave a layer at one of its bounds, or one cent beside it; none if a few events cannot.
 pub fn lines(random: &mut Random, ledger: &Ledger, day: u64) -> Option<Lines> {
-    let tier = if random.one_in(2) { &ledger.programme.risk } else { &ledger.programme.cat };
-    let is_risk = std::ptr::eq(tier, &ledger.programme.risk);
-    let sums = if is_risk { ledger.sums.risk } else { ledger.sums.cat };
+    let Ledger { programme, sums } = ledger;
+    let is_risk = random.one_in(2);
+    let (tier, sums) = if is_risk { (&programme.risk, &sums.risk) } else { (&programme.cat, &sums.cat) };
     let place = random.place(tier.len().max(1));
     let layer = tier.get(place)?;
-    let turn = random.pick(&turns(layer))? + random.pick(&[0, 0, 1, 1, 1, 2]) - 1;
-    let amount = u128::from(turn).checked_sub(sums[place]).filter(|amount| *amount > 0)? as u64;
-    let subjects = subjects(layer, amount);
-    if amount / layer.limit > MOST_EVENTS || subjects.iter().any(|subject| *subject > LARGEST_AMOUNT) {
+    let bound = random.pick(&bounds(layer))? + random.pick(&[0, 0, 1, 1, 1, 2]) - 1;
+    let amount = u128::from(bound).checked_sub(sums[place]).filter(|amount| *amount > 0)? as u64;
+    if amount / layer.limit > MOST_LIMITS || layer.attachment + layer.limit > LARGEST_AMOUNT {
         return None;
     }
+    let subjects = subjects(layer, amount);
     if is_risk {
         return Some(vec![event(random, day, &subjects)]);
     }

@@ -21,13 +21,17 @@ impl Room {
     }
 
     pub fn lent(&mut self) -> &mut [u8] {
-        let end = self.bytes.len() - GUARD;
-        &mut self.bytes[GUARD..end]
+        let length = self.length();
+        &mut self.bytes[GUARD..][..length]
     }
 
-    /// The first bytes of the part that is lent.
-    pub fn text(&self, length: usize) -> &[u8] {
-        &self.bytes[GUARD..GUARD + length]
+    pub fn length(&self) -> usize {
+        self.bytes.len() - 2 * GUARD
+    }
+
+    /// The first bytes lent, as many as a call says that it has written.
+    pub fn text(&self, length: u64) -> &[u8] {
+        &self.bytes[GUARD..][..self.length().min(length as usize)]
     }
 
     /// The first place that differs from another room's, counted from the first byte lent.
@@ -66,7 +70,7 @@ pub fn read(text: &[u8]) -> Reading {
 }
 
 pub fn write(programme: &Programme, room: &mut Room) -> Answer {
-    let (address, length) = (room.address(), room.lent().len());
+    let (address, length) = (room.address(), room.length());
     unsafe { raw::cession_write(*programme, address, length) }
 }
 
@@ -75,6 +79,6 @@ pub fn open(programme: &Programme) -> Opening {
 }
 
 pub fn run(programme: &Programme, lent: &mut Lent, events: &[u8], room: &mut Room) -> Answer {
-    let (address, length) = (room.address(), room.lent().len());
+    let (address, length) = (room.address(), room.length());
     unsafe { raw::cession_run(*programme, &mut lent.standing, events.as_ptr(), events.len(), address, length) }
 }

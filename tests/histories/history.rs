@@ -45,7 +45,7 @@ fn answer(result: Result<usize, Refusal>) -> Answer {
 /// Reads the table, writes it back and opens a year; the programme's record is the second calculation's.
 fn open(random: &mut Random, table: &[u8]) -> Result<(raw::Programme, Ledger), Difference> {
     let differs = |call: &str| format!("{}\n{call} differs", shown("table", table));
-    let programme = calculation::read_table(table).map_err(|refusal| differs(&format!("no table drawn {refusal:?}")))?;
+    let programme = calculation::read_table(table).map_err(|_| differs("reading"))?;
     let record = records::raw_programme(&programme);
     if boundary::read(table) != (Reading { refusal: 0, line: 0, programme: record }) {
         return Err(differs("reading"));
@@ -57,7 +57,7 @@ fn open(random: &mut Random, table: &[u8]) -> Result<(raw::Programme, Ledger), D
     if boundary::write(&record, &mut room) != answer(Ok(text.len())) || room != expected {
         return Err(differs("writing"));
     }
-    let sums = calculation::open(&programme).map_err(|refusal| differs(&format!("no programme drawn {refusal:?}")))?;
+    let sums = calculation::open(&programme).map_err(|_| differs("opening"))?;
     let ledger = Ledger { programme, sums };
     if boundary::open(&record) != (Opening { refusal: 0, number: 0, standing: ledger.standing() }) {
         return Err(differs("opening"));
@@ -109,25 +109,20 @@ impl History {
         if run.standing.is_some() {
             self.lent = before;
         } else if answer.refusal == 0 {
-            tally.count_turns(&ledger, &self.ledger);
+            tally.count_bounds(&ledger, &self.ledger);
             self.take_in(&run, &lent, &found, tally)?;
         }
         Ok(())
     }
 
     /// What an accepted run adds to the history; at times its text is run in two as well.
-    fn take_in(
-        &mut self,
-        run: &Run,
-        from: &raw::Standing,
-        left: &Left,
-        tally: &mut Tally,
-    ) -> Result<(), Difference> {
-        let length = left.answer.number as usize;
+    fn take_in(&mut self, run: &Run, from: &raw::Standing, left: &Left, tally: &mut Tally) -> Result<(), Difference> {
+        let length = left.answer.number;
         self.accepted.add(&run.events, left.room.text(length), run.programme != self.programme);
         let lines = run.events.iter().filter(|byte| **byte == b'\n').count();
         if lines > 0 && lines <= MOST_LINES_IN_TWO && self.runs.random.one_in(3) {
-            let in_two = InTwo { programme: &run.programme, from: *from, events: &run.events, length };
+            let in_two =
+                InTwo { programme: &run.programme, from: *from, events: &run.events, length: length as usize };
             tally.cuts += in_two.compare(&mut self.runs.random).map_err(|found| self.with_table(&found))?;
         }
         Ok(())
@@ -151,16 +146,15 @@ impl History {
         let is_changed = if run.standing.is_some() { ", changed on purpose" } else { "" };
         lines.push(format!("--- lent the standing{is_changed}\n{lent:?}"));
         for (name, left) in [("library", found), ("second calculation", expected)] {
-            let length = if left.answer.refusal == 0 { left.answer.number as usize } else { 0 };
-            let text = left.room.clone().lent().get(..length).map_or(Vec::new(), <[u8]>::to_vec);
+            let length = if left.answer.refusal == 0 { left.answer.number } else { 0 };
             lines.push(format!("--- {name}: {:?}\n{:?}", left.answer, left.lent.standing));
-            lines.push(shown("statement", &text));
+            lines.push(shown("statement", left.room.text(length)));
         }
         if found.lent != Lent::new(found.lent.standing) {
             lines.push("--- something beside the standing was written to".to_string());
         }
         if let Some(place) = found.room.first_difference(&expected.room) {
-            let length = found.room.clone().lent().len();
+            let length = found.room.length();
             lines.push(format!("--- the buffers, {length} bytes lent, differ first at byte {place}, counted from 0"));
         }
         lines.join("\n")

@@ -63,7 +63,7 @@ impl InTwo<'_> {
         let mut room = Room::new(random, self.length + LONGER);
         let answer = boundary::run(self.programme, lent, events, &mut room);
         if answer.refusal == 0 {
-            return Ok(Statement::new(room.text(answer.number as usize)));
+            return Ok(Statement::new(room.text(answer.number)));
         }
         Err(format!("{}\nthis part is refused: {answer:?}", shown("part", events)))
     }

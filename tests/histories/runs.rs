@@ -11,8 +11,7 @@ use crate::random::Random;
 use crate::raw;
 
 const LAST_DAY: u64 = 366;
-const SCALES: [u64; 8] =
-    [3, 100, 10_000, 10_000, 1_000_000, 1_000_000_000, 1_000_000_000_000, LARGEST_AMOUNT];
+const SCALES: [u64; 8] = [3, 100, 10_000, 10_000, 1_000_000, 1_000_000_000, 1_000_000_000_000, LARGEST_AMOUNT];
 
 /// Lent to one run.
 pub struct Run {
@@ -115,7 +114,7 @@ impl Runs {
         (0..count).map(|_| self.random.pick(&RULES)).collect()
     }
 
-    /// Lines that are accepted: drawn, aimed at a layer's turn, or none.
+    /// Lines that are accepted: drawn, aimed at a layer's bound, or none.
     fn lines(&mut self, ledger: &Ledger) -> Lines {
         let random = &mut self.random;
         let later = if random.one_in(30) { LAST_DAY } else { random.pick(&[0, 0, 1, 3, 20]) };

@@ -1,6 +1,6 @@
 //! What the histories compared so far have reached.
 
-use crate::aim::turns;
+use crate::aim::bounds;
 use crate::ledger::Ledger;
 use crate::raw::{Answer, Programme};
 use crate::runs::Run;
@@ -10,20 +10,25 @@ use std::collections::BTreeMap;
 /// The refusals that a run can give.
 const REFUSALS: [u64; 9] = [6, 7, 8, 9, 10, 11, 12, 13, 14];
 
-/// One run in so many histories is to have each refusal.
-const HISTORIES_A_REFUSAL: usize = 20;
+/// For a hundred histories, how many runs have each refusal, and how many a buffer that just fits or is one byte short.
+const LEAST_RUNS: usize = 5;
 
 /// Of a hundred histories, how many have cessions, recoveries of both tiers and premium.
 const LEAST_FULL: usize = 30;
 
-/// Of a hundred histories, how many have a layer that an earlier run brought a loss and that comes to each turn.
+/// Of a hundred histories, how many have a layer that an earlier run brought a loss and that comes to each bound.
 const LEAST_REACHED: usize = 20;
 
-/// Of a hundred histories, how many have a layer that a run leaves just at each turn.
+/// Of a hundred histories, how many have a layer that a run leaves just at each bound.
 const LEAST_MET: usize = 15;
 
-/// By a layer's turns: the deductible used up, the reinstatements used up, the cap.
-type ByTurn = [usize; 3];
+/// For a hundred histories, how many cuts are compared.
+const LEAST_CUTS: usize = 200;
+
+const BOUNDS: [&str; 3] = ["deductible", "reinstatements", "cap"];
+
+/// How many histories, for each bound.
+type ByBound = [usize; 3];
 
 #[derive(Default)]
 pub struct Tally {
@@ -37,8 +42,8 @@ pub struct Tally {
     one_short: usize,
     pub cuts: usize,
     full: usize,
-    reached: ByTurn,
-    met: ByTurn,
+    reached: ByBound,
+    met: ByBound,
     /// Of the history under way.
     reaches: [bool; 3],
     meets: [bool; 3],
@@ -46,7 +51,7 @@ pub struct Tally {
 
 impl Tally {
     pub fn count_run(&mut self, run: &Run, programme: &Programme, answer: Answer) {
-        let length = run.room.clone().lent().len() as u64;
+        let length = run.room.length() as u64;
         self.runs += 1;
         if answer.refusal == 0 {
             self.accepted += 1;
@@ -58,13 +63,13 @@ impl Tally {
         }
     }
 
-    /// The turns that the layers have come to in an accepted run.
-    pub fn count_turns(&mut self, before: &Ledger, after: &Ledger) {
+    /// The bounds that layers have come to in an accepted run.
+    pub fn count_bounds(&mut self, before: &Ledger, after: &Ledger) {
         for ((_, before), (layer, after)) in before.layers().zip(after.layers()) {
-            for (place, turn) in turns(layer).into_iter().enumerate() {
-                let Some(turn) = turn.map(u128::from) else { continue };
-                self.reaches[place] |= before > 0 && before < turn && turn <= after;
-                self.meets[place] |= before < turn && turn == after;
+            for (place, bound) in bounds(layer).into_iter().enumerate() {
+                let Some(bound) = bound.map(u128::from) else { continue };
+                self.reaches[place] |= before > 0 && before < bound && bound <= after;
+                self.meets[place] |= before < bound && bound == after;
             }
         }
     }
@@ -87,29 +92,32 @@ impl Tally {
         }
         println!("; accepted with a field changed {changed}; in two runs {} cuts", self.cuts);
         print!("histories: buffers that just fit {}, one byte short {}; ", self.fitting, self.one_short);
-        print!("histories with cessions, both recoveries and premium {}; used up by a later run, and just so: ", self.full);
-        let names = ["deductible", "reinstatements", "cap"];
-        let counts = names.iter().zip(self.reached).zip(self.met);
+        print!(
+            "histories with cessions, both recoveries and premium {}; used up by a later run, and just so: ",
+            self.full
+        );
+        let counts = BOUNDS.iter().zip(self.reached).zip(self.met);
         let counts: Vec<String> = counts.map(|((name, reached), met)| format!("{name} {reached}, {met}")).collect();
         println!("{}", counts.join("; "));
     }
 
     /// What the histories should have reached and did not.
     pub fn missing(&self) -> Vec<String> {
-        let mut missing = Vec::new();
+        let mut counts = vec![
+            ("buffers that just fit".to_string(), self.fitting, LEAST_RUNS),
+            ("buffers one byte short".to_string(), self.one_short, LEAST_RUNS),
+            ("cuts".to_string(), self.cuts, LEAST_CUTS),
+            ("histories with cessions, both recoveries and premium".to_string(), self.full, LEAST_FULL),
+        ];
         for refusal in REFUSALS {
             let count = self.refused.get(&refusal).copied().unwrap_or(0);
-            if count * HISTORIES_A_REFUSAL < self.histories {
-                missing.push(format!("too few runs refused with {refusal}: {count}"));
-            }
+            counts.push((format!("runs refused with {refusal}"), count, LEAST_RUNS));
         }
-        if self.full * 100 < self.histories * LEAST_FULL {
-            missing.push("too few histories with cessions, recoveries of both tiers and premium".to_string());
+        for (place, name) in BOUNDS.iter().enumerate() {
+            counts.push((format!("{name} used up by a later run"), self.reached[place], LEAST_REACHED));
+            counts.push((format!("{name} used up just so"), self.met[place], LEAST_MET));
         }
-        let too_few = |counts: ByTurn, least| counts.iter().any(|count| count * 100 < self.histories * least);
-        if too_few(self.reached, LEAST_REACHED) || too_few(self.met, LEAST_MET) {
-            missing.push("too few histories with deductible, reinstatements or cap used up, or just so".to_string());
-        }
-        missing
+        let too_few = counts.into_iter().filter(|(_, count, least)| count * 100 < self.histories * least);
+        too_few.map(|(name, count, least)| format!("{name}: {count}, not {least} for a hundred histories")).collect()
     }
 }

@@ -15,8 +15,8 @@ mod words;
 
 use events::{read_events, LAST_DAY};
 use statement::Run;
-use table::{Layer, MOST_LAYERS};
 pub use table::{read_table, Programme};
+use table::{Layer, MOST_LAYERS};
 
 /// A refusal and its second number.
 pub type Refusal = (u64, u64);
