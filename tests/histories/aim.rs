@@ -43,20 +43,36 @@ fn below_risk(ledger: &Ledger, amount: u64) -> Option<Vec<u64>> {
     Some(losses)
 }
 
+/// A layer and what takes it to one of its bounds.
+struct Aim<'a> {
+    is_risk: bool,
+    layer: &'a Layer,
+    amount: u64,
+}
+
+fn aims(ledger: &Ledger) -> Vec<Aim<'_>> {
+    let Ledger { programme, sums } = ledger;
+    let risk = programme.risk.iter().zip(sums.risk).map(|(layer, sum)| (true, layer, sum));
+    let cat = programme.cat.iter().zip(sums.cat).map(|(layer, sum)| (false, layer, sum));
+    let mut aims = Vec::new();
+    for (is_risk, layer, sum) in risk.chain(cat) {
+        for bound in bounds(layer).into_iter().flatten() {
+            let amount = u128::from(bound).saturating_sub(sum) as u64;
+            let is_near = amount / layer.limit <= MOST_LIMITS && layer.attachment + layer.limit <= LARGEST_AMOUNT;
+            if amount > 0 && is_near {
+                aims.push(Aim { is_risk, layer, amount });
+            }
+        }
+    }
+    aims
+}
+
 /// Lines that leave a layer at one of its bounds, or one cent beside it; none if a few events cannot.
 pub fn lines(random: &mut Random, ledger: &Ledger, day: u64) -> Option<Lines> {
-    let Ledger { programme, sums } = ledger;
-    let is_risk = random.one_in(2);
-    let (tier, sums) = if is_risk { (&programme.risk, &sums.risk) } else { (&programme.cat, &sums.cat) };
-    let place = random.place(tier.len().max(1));
-    let layer = tier.get(place)?;
-    let bound = random.pick(&bounds(layer))? + random.pick(&[0, 0, 1, 1, 1, 2]) - 1;
-    let amount = u128::from(bound).checked_sub(sums[place]).filter(|amount| *amount > 0)? as u64;
-    if amount / layer.limit > MOST_LIMITS || layer.attachment + layer.limit > LARGEST_AMOUNT {
-        return None;
-    }
-    let subjects = subjects(layer, amount);
-    if is_risk {
+    let aims = aims(ledger);
+    let Aim { is_risk, layer, amount } = aims.get(random.place(aims.len().max(1)))?;
+    let subjects = subjects(layer, amount + random.pick(&[0, 0, 1, 1, 1, 2]) - 1);
+    if *is_risk {
         return Some(vec![event(random, day, &subjects)]);
     }
     subjects.iter().map(|subject| Some(event(random, day, &below_risk(ledger, *subject)?))).collect()

@@ -19,8 +19,8 @@ const LEAST_FULL: usize = 30;
 /// Of a hundred histories, how many have a layer that an earlier run brought a loss and that comes to each bound.
 const LEAST_REACHED: usize = 20;
 
-/// Of a hundred histories, how many have a layer that a run leaves just at each bound.
-const LEAST_MET: usize = 15;
+/// Of a hundred histories, how many have a layer that a run brings to each bound to the cent, or one cent beside it.
+const LEAST_MET: usize = 33;
 
 /// For a hundred histories, how many cuts are compared.
 const LEAST_CUTS: usize = 200;
@@ -69,7 +69,7 @@ impl Tally {
             for (place, bound) in bounds(layer).into_iter().enumerate() {
                 let Some(bound) = bound.map(u128::from) else { continue };
                 self.reaches[place] |= before > 0 && before < bound && bound <= after;
-                self.meets[place] |= before < bound && bound == after;
+                self.meets[place] |= before + 1 < bound && after.abs_diff(bound) <= 1;
             }
         }
     }
@@ -93,7 +93,7 @@ impl Tally {
         println!("; accepted with a field changed {changed}; in two runs {} cuts", self.cuts);
         print!("histories: buffers that just fit {}, one byte short {}; ", self.fitting, self.one_short);
         print!(
-            "histories with cessions, both recoveries and premium {}; used up by a later run, and just so: ",
+            "histories with cessions, both recoveries and premium {}; used up by a later run, and to a cent: ",
             self.full
         );
         let counts = BOUNDS.iter().zip(self.reached).zip(self.met);
@@ -115,7 +115,7 @@ impl Tally {
         }
         for (place, name) in BOUNDS.iter().enumerate() {
             counts.push((format!("{name} used up by a later run"), self.reached[place], LEAST_REACHED));
-            counts.push((format!("{name} used up just so"), self.met[place], LEAST_MET));
+            counts.push((format!("{name} used up to a cent"), self.met[place], LEAST_MET));
         }
         let too_few = counts.into_iter().filter(|(_, count, least)| count * 100 < self.histories * least);
         too_few.map(|(name, count, least)| format!("{name}: {count}, not {least} for a hundred histories")).collect()
