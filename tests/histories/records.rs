@@ -60,8 +60,8 @@ fn layers(tier: &raw::Layers) -> Option<Vec<Layer>> {
     Some(tier.places.get(..tier.count)?.iter().map(layer).collect())
 }
 
-/// The programme whose record this is; none if the record has a number that no programme's record has: a count above 8,
-/// a kind that is none, anything but 0 in an unused place or in a term of the other kind.
+/// The programme whose record this is; none if the record has a number that no programme's record has: a count
+/// above 8, a kind that is none, anything but 0 in an unused place or in a term of the other kind.
 pub fn programme(record: &raw::Programme) -> Option<Programme> {
     let treaties = record.treaties.places.get(..record.treaties.count)?.iter().map(treaty).collect::<Option<_>>()?;
     let programme = Programme { treaties, risk: layers(&record.risk)?, cat: layers(&record.cat)? };

@@ -10,7 +10,8 @@ use std::collections::BTreeMap;
 /// The refusals that a run can give.
 const REFUSALS: [u64; 9] = [6, 7, 8, 9, 10, 11, 12, 13, 14];
 
-/// For a hundred histories, how many runs have each refusal, and how many a buffer that just fits or is one byte short.
+/// For a hundred histories, how many runs have each refusal, and how many a buffer that just fits or is one byte
+/// short.
 const LEAST_RUNS: usize = 5;
 
 /// Of a hundred histories, how many have cessions, recoveries of both tiers and premium.
