@@ -5,7 +5,8 @@
 #[allow(dead_code)] // the other tests call the rest
 mod calculation;
 
-use calculation::{open, read_table, run, write_table, Layer, Programme, Standing};
+use calculation::table::{write_table, Layer};
+use calculation::{open, read_table, run, Programme, Standing};
 use std::io::{self, Write};
 use std::path::Path;
 use std::{env, fs};
