@@ -22,7 +22,6 @@ use statement::print::Counts;
 use year::Standing;
 
 // What a run gives back: its answer, and the standing after it, which is the one lent where it is refused.
-#[repr(C)]
 pub struct Ran {
     pub answer: Answer,
     pub standing: Standing,

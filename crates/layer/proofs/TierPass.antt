@@ -15,7 +15,8 @@ use Rattle.layer.specs.declared.record.Borne.{Borne}
 use Rattle.layer.specs.declared.tier.Tier.{Tier}
 use Rattle.layer.specs.declared.tier.PlacesBorne.{PlacesBorne}
 use Rattle.layer.specs.Layer.{sumsOf, borneThrough}
-use Rattle.layer.specs.Tier.{layersThrough, recoveriesThrough, chargesThrough, sumsThrough, layersOf, tierThrough}
+use Rattle.layer.specs.Tier.{layersThrough, recoveriesThrough, chargesThrough, sumsThrough}
+use Rattle.layer.specs.Tier.{layersOf, tierThrough}
 use Rattle.layer.specs.Ranges.{Sound, Ample, AmpleForTier, SoundLayers, SoundTier}
 use Rattle.layer.proofs.Through.{afterEach, recoveredEach, chargedEach, borne-columns}
 use Rattle.layer.proofs.Through.{layers-each, recoveries-each, charges-each}

@@ -1,5 +1,5 @@
-// The layers of one tier: each looks at the same subject amounts, and none sees another's remainder. They are lent as a
-// list of records, each brought up to date in its place.
+// The layers of one tier: each looks at the same subject amounts, and none sees another's remainder. They are lent as
+// a list of records, each brought up to date in its place.
 ghost use mathlib.Core.Path.{_≡_};
 ghost use mathlib.Core.List.{_++_};
 ghost use Prim.Native.Nat.{_≤_};
@@ -23,9 +23,9 @@ pub struct TierBorne {
 }
 
 // The eight places of a tier and the sums after subject amounts.
-pub struct PlacesBorne {
-    pub layers: [Layer; 8],
-    pub sums: Sums,
+struct PlacesBorne {
+    layers: [Layer; 8],
+    sums: Sums,
 }
 
 // Brings each layer of a lent list up to date in its place: amounts come to it, each in turn the subject, and its

@@ -1,8 +1,8 @@
 -- A local that is lent to a call: of a declared struct of plain fields, or an array of such a struct. The struct is D
 -- with its laws L and the fact pl that its fields own only facts.
 --     struct-laid, struct-back    a local that holds h is h lying in memory, which can be lent; and back
---     laid, back                  a local array xs ++ ys is the cells of xs, which can be lent, and the row of ys behind
---                                 them; and back, at another list in the place of xs
+--     laid, back                  a local array xs ++ ys is the cells of xs, which can be lent, and the row of ys
+--                                 behind them; and back, at another list in the place of xs
 -- Assumes `Given`.
 use mathlib.Core.Path.{_≡_, refl, sym, _∙_}
 use mathlib.Core.List.{List, [], _∷_, _++_, map}

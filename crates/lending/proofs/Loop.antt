@@ -1,6 +1,6 @@
 -- A `while` loop of a function that is followed by hand, with what follows the loop.
---     whiles    I t is all that is had before a turn at t; a turn ends in I t′ for a t′ below t, or leaves the loop with
---               P t and I t (`out`), from where the rest runs
+--     whiles    I t is all that is had before a turn at t; a turn ends in I t′ for a t′ below t, or leaves the loop
+--               with P t and I t (`out`), from where the rest runs
 --     out       the end of a turn that leaves the loop
 -- What the loop leaves says nothing of the rest of the code, so that the two are not compared.
 -- Assumes `Given`.
@@ -17,7 +17,8 @@ use sound.Loop.{loop-rule}
 use types.Kit.{Given, Item, ⋆, Post, anyQ, post, prop, runs, Seq}
 use types.Run.{Below}
 
-module _ {M : Type 1} (𝓤 : URA M) (H : Heap 𝓤) (A : Atoms 𝓤) {X : Type 0} (I : X → List (Item 𝓤)) (P : X → Type 0) where
+module _ {M : Type 1} (𝓤 : URA M) (H : Heap 𝓤) (A : Atoms 𝓤) {X : Type 0} (I : X → List (Item 𝓤))
+    (P : X → Type 0) where
   -- what is had where the loop is left
   abbrev pub At : X → SProp 𝓤
   At t = guard 𝓤 (P t) (⋆ 𝓤 H A (I t))

@@ -61,5 +61,5 @@ pub use denote.Triple.Statement.{Contract, Triple}
 pub use denote.Triple.Call.{calls-at}
 pub use denote.Triple.Clauses.{ensured, lasts}
 pub use denote.Triple.Table.{cited}
-pub use denote.Triple.Walked.{says, needs, Stays, stay-dropped, stay-ref, stay-slice, gave-slice, walkOf, Walks, ends-at}
-pub use denote.Triple.Walked.{walked, AllGo, goes-dropped, goes-ref, goes-slice, goes-gave-slice}
+pub use denote.Triple.Walked.{says, needs, Stays, stay-dropped, stay-ref, stay-slice, gave-slice, walkOf, Walks}
+pub use denote.Triple.Walked.{ends-at, walked, AllGo, goes-dropped, goes-ref, goes-slice, goes-gave-slice}

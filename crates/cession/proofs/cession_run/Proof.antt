@@ -1,6 +1,6 @@
--- `cession::cession_run` meets its contract: its code is followed by hand, statement by statement. The lent standing is
--- opened, given by value to `engine::run::run`, and closed at the standing that this gives back. All that is known of
--- that run is its contract.
+-- `cession::cession_run` meets its contract: its code is followed by hand, statement by statement. The lent standing
+-- is opened, given by value to `engine::run::run`, and closed at the standing that this gives back. All that is known
+-- of that run is its contract.
 -- Assumes nothing.
 use Rattle.lending.proofs.Names.{_≡_, refl, ap, [], _∷_, List, true, ℕ, length, URA, fullShare, named, Val, vptr}
 use Rattle.lending.proofs.Names.{SProp, ent, id⊢, emp, via, fst∗, Lft, Share, GName, ftrue, flft, fobs, fbor, fat, Fml}
@@ -173,7 +173,8 @@ module _ {M : Type 1} (𝓤 : URA M) (H : Heap 𝓤) (A : Atoms 𝓤) (W : Given
         qed W
         ((‵ (flft κ q) ⊛ tokens)
         ∷ ‵
-        (owns (P.the-row ∷ MutRef (named 0) κ S.the-row ∷ ShrSlice (named 1) κ₁ u8 ∷ MutSlice (named 2) κ₂ u8 ∷ []) a vals)
+        (owns (P.the-row ∷ MutRef (named 0) κ S.the-row ∷ ShrSlice (named 1) κ₁ u8 ∷ MutSlice (named 2) κ₂ u8 ∷ [])
+        a vals)
         ∷ [])
         ∵ enter ! C Λ code.function passed _
         $ alloc1 ! (λ l₀. alloc1 ! (λ l₁. alloc1 ! (λ l₂. alloc1 ! (λ l₃. alloc1 ! (λ l₄. alloc1 ! (λ l₅.
@@ -215,8 +216,8 @@ module _ {M : Type 1} (𝓤 : URA M) (H : Heap 𝓤) (A : Atoms 𝓤) (W : Given
         $ facts ! R.the-row (Is R.the-row) (shows 𝓤 H A R.the-row) r (w ∷ []) (λ gr.
         -- [the slices' tokens; the last bytes; true; the standing's cell; the open borrow; obs; auth; _8; …]
         land ! (from ! (stop !)) (init ! 11 refl (LL.lawful R.the-type R′.the-laws 𝓤 H A W .typed r _ gr .0))
-        $ rewrite ! 11 (λ (u : Val). ‵ (fat fullShare R′.mir l₆ 0 u)) (ap only (LL.tells R.the-type R′.the-laws r _ gr))
-        refl
+        $ rewrite ! 11 (λ (u : Val). ‵ (fat fullShare R′.mir l₆ 0 u))
+        (ap only (LL.tells R.the-type R′.the-laws r _ gr)) refl
         $ assigns ! (of-opd ! (load ! (from ! (fld ! refl (stop !))) (look-in ! 11 (sub ! 1 refl (whole !)))))
         (from ! (hop ! (look ! 19 refl) (stop !)))
         (store-raw ! 3 refl
@@ -225,7 +226,8 @@ module _ {M : Type 1} (𝓤 : URA M) (H : Heap 𝓤) (A : Atoms 𝓤) (W : Given
         (from ! (stop !))
         (init ! 23 refl (LL.lawful N.the-type N′.the-laws 𝓤 H A W .typed (r .answer) _ (answer-of r w gr) .0))
         -- the borrow is closed at the new standing
-        $ owned ! S.the-row (Is S.the-row) (LL.makes S.the-type S′.the-plain 𝓤 H A) (r .standing) _ (standing-of r w gr)
+        $ owned ! S.the-row (Is S.the-row) (LL.makes S.the-type S′.the-plain 𝓤 H A) (r .standing) _
+        (standing-of r w gr)
         $ move ! (4 ∷ 0 ∷ 5 ∷ 6 ∷ 7 ∷ []) $ closes ! tt S.the-row (r .standing) (standing-vals (r .standing)) b o
         -- [obs; the borrow; its token; the slices' tokens; the last bytes; true; _8; …]
         $ returns ! (look ! 22 refl) $ forget ! 6 refl $ forget ! 8 refl $ forget ! 10 refl $ forget ! 12 refl

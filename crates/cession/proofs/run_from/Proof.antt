@@ -210,7 +210,8 @@ module _ {M : Type 1} (𝓤 : URA M) (H : Heap 𝓤) (A : Atoms 𝓤) (W : Given
         (id⊢ 𝓤 _) $ await ! tt $ pick ! (λ n. split ! $ move ! (1 ∷ [])
         $ use1 W
         (some (λ (ys : Unit {0} × (Standing × (Unit {0} × (List ℕ × Unit {0})))).
-        ‵ (lasts run.ended (ν ∷ [], (κ₁, (κ₂, tt))) (args l₅ γ) ys) ⊛ raw (fact 𝓤 (Said n (ys .1 .0) (ys .1 .1 .1 .0)))))
+        ‵ (lasts run.ended (ν ∷ [], (κ₁, (κ₂, tt))) (args l₅ γ) ys)
+        ⊛ raw (fact 𝓤 (Said n (ys .1 .0) (ys .1 .1 .1 .0)))))
         (id⊢ 𝓤 _)
         $ pick ! (λ ys. split ! $ move ! (1 ∷ []) $ heard ! (Said n (ys .1 .0) (ys .1 .1 .1 .0)) (λ said.
         fsplit ! $ let-go ! $ fsplit ! $ move ! (1 ∷ []) $ fsplit ! $ let-go ! $ fsplit ! $ fsplit ! $ move ! (1 ∷ [])
@@ -220,8 +221,8 @@ module _ {M : Type 1} (𝓤 : URA M) (H : Heap 𝓤) (A : Atoms 𝓤) (W : Given
         $ facts ! N.the-row (Is N.the-row) (shows 𝓤 H A N.the-row) n (w ∷ []) (λ gn.
         -- [the tokens; the last bytes; true; the last standing; the lender's part; _10 at 5; …; _6 at 13; …]
         land ! (from ! (stop !)) (init ! 13 refl (LL.lawful N.the-type N′.the-laws 𝓤 H A W .typed n _ gn .0))
-        $ rewrite ! 13 (λ (u : Val). ‵ (fat fullShare N′.mir l₆ 0 u)) (ap only (LL.tells N.the-type N′.the-laws n _ gn))
-        refl
+        $ rewrite ! 13 (λ (u : Val). ‵ (fat fullShare N′.mir l₆ 0 u))
+        (ap only (LL.tells N.the-type N′.the-laws n _ gn)) refl
         -- ν ends, and the local comes back at the last standing
         $ split ! $ lft-end ! tt $ move ! (0 ∷ 5 ∷ 4 ∷ [])
         $ use3 W (later (‵ (mem S.the-row .lies (ys .1 .0) l₅ 0)))
@@ -287,8 +288,8 @@ module _ {M : Type 1} (𝓤 : URA M) (H : Heap 𝓤) (A : Atoms 𝓤) (W : Given
 pub run-from-spec : {M : Type 1} → stated.statement M
 unfolding code.routine tablesOf
 run-from-spec 𝓤 H 𝓜 𝓖 𝓡 =
-    followed 𝓤 H 𝓜 𝓖 𝓡 code.env run-from.ended stayed (goes 𝓤 H (𝓖 .A) (givenOf 𝓤 H 𝓜 𝓖)) #cession·run-from code.function
-    (code.unfolded 𝓤 H 𝓜 𝓡) (run-from.clauses 𝓤 H (𝓖 .A) (𝓜 .mem) (𝓡 .run))
+    followed 𝓤 H 𝓜 𝓖 𝓡 code.env run-from.ended stayed (goes 𝓤 H (𝓖 .A) (givenOf 𝓤 H 𝓜 𝓖)) #cession·run-from
+    code.function (code.unfolded 𝓤 H 𝓜 𝓡) (run-from.clauses 𝓤 H (𝓖 .A) (𝓜 .mem) (𝓡 .run))
     (run-from-walks 𝓤 H (𝓖 .A) (givenOf 𝓤 H 𝓜 𝓖) (𝓜 .mem) (𝓡 .run) (tablesOf 𝓤 H 𝓜 (tables 𝓤 H 𝓜 𝓡 code.env))
     (cited 𝓤 H (Runs 𝓤 H (𝓖 .A) (𝓜 .mem) (𝓡 .run)) 𝓜 𝓡 code.env #cession·run run-def.routine
     code.calls-cession·cession-run (run-thm.met 𝓤 H 𝓜 𝓖 𝓡)))

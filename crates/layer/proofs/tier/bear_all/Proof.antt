@@ -314,8 +314,8 @@ module _ {M : Type 1} (𝓤 : URA M) (H : Heap 𝓤) (A : Atoms 𝓤) (W : Given
         $ elem-out ! L.the-row (Is L.the-row) (shows 𝓤 H A L.the-row) layer-vals (LL.tells L.the-type L′.the-laws)
         fullShare (u .ls) (u .i) none b o (inside u (ltb-true (u .i) n yes′)) (λ gy. move ! (1 ∷ []) $ let-go !
         -- [the layer's cell; the others; the open borrow; obs; auth; the amounts; their token; _10 at 7; …]
-        $ assigns ! (of-opd ! (load ! (from ! (hop ! (look ! 11 refl) (stop !))) (look-raw ! 0 refl))) (from ! (stop !))
-        (init ! 9 refl (LL.lawful L.the-type L′.the-laws 𝓤 H A W .typed (y u (ltb-true (u .i) n yes′)) _ gy .0))
+        $ assigns ! (of-opd ! (load ! (from ! (hop ! (look ! 11 refl) (stop !))) (look-raw ! 0 refl)))
+        (from ! (stop !)) (init ! 9 refl (LL.lawful L.the-type L′.the-laws 𝓤 H A W .typed (y u (ltb-true (u .i) n yes′)) _ gy .0))
         $ move ! (5 ∷ [])
         $ use1 W (‵ amounts ⊛ ‵ amounts) (shr-slice-copy 𝓤 H A W (named 1) κ₁ u64 .twice e (slice-vals e)) $ split !
         $ move ! (7 ∷ 0 ∷ [])
@@ -337,8 +337,8 @@ module _ {M : Type 1} (𝓤 : URA M) (H : Heap 𝓤) (A : Atoms 𝓤) (W : Given
         $ facts ! B.the-row (Is B.the-row) (shows 𝓤 H A B.the-row) r (w ∷ []) (λ gr.
         -- [the token; the amounts; the layer's cell; the others; the open borrow; obs; auth; _10 at 7; …]
         land ! (from ! (stop !)) (init ! 17 refl (LL.lawful B.the-type B′.the-laws 𝓤 H A W .typed r _ gr .0))
-        $ rewrite ! 17 (λ (v : Val). ‵ (fat fullShare B′.mir l₅ 0 v)) (ap only (LL.tells B.the-type B′.the-laws r _ gr))
-        refl
+        $ rewrite ! 17 (λ (v : Val). ‵ (fat fullShare B′.mir l₅ 0 v))
+        (ap only (LL.tells B.the-type B′.the-laws r _ gr)) refl
         -- the new record is stored and put into the row, and the sums and i move on
         $ assigns !
         (bin ! (load ! (from ! (stop !)) (look ! 19 refl)) (lit ! tt)

@@ -1,6 +1,6 @@
--- `layer::tier::bear_first` meets its contract: its code is followed by hand, statement by statement. The eight places
--- lie in a local, of which the first ones are lent to `bear_all` for a lifetime made for the call, and come back at the
--- layers that its contract says.
+-- `layer::tier::bear_first` meets its contract: its code is followed by hand, statement by statement. The eight
+-- places lie in a local, of which the first ones are lent to `bear_all` for a lifetime made for the call, and come
+-- back at the layers that its contract says.
 -- Assumes nothing.
 use Rattle.lending.proofs.Names.{_≡_, refl, sym, _∙_, ap, subst, [], _∷_, List, _++_, true, ℕ, _+_, _*_, _≤_, _<_, _^_}
 use Rattle.lending.proofs.Names.{min, arith, length, take, drop, length-take, length-append, take-append-drop, URA}
@@ -231,8 +231,8 @@ module _ {M : Type 1} (𝓤 : URA M) (H : Heap 𝓤) (A : Atoms 𝓤) (W : Given
         (fat fullShare (sliceTy (tyRef erased mut (pointee (L.the-row .written)))) l₈ 0 (sliceVal (l₅, 0) k)))
         (sym count) refl
         $ move ! (21 ∷ []) $ fsplit ! $ let-go ! $ fsplit ! $ let-go ! $ fsplit ! $ move ! (1 ∷ []) $ let-go !
-        -- [the amounts; _9 at 1; …; _5 at 9; …; _0 at 19; …; the token at 21]: the first n layers of the local are lent
-        -- for a lifetime ν of the call
+        -- [the amounts; _9 at 1; …; _5 at 9; …; _0 at 19; …; the token at 21]: the first n layers of the local are
+        -- lent for a lifetime ν of the call
         $ move ! (9 ∷ [])
         $ rewrite ! 0
         (λ (l : List Layer). ‵
@@ -247,8 +247,8 @@ module _ {M : Type 1} (𝓤 : URA M) (H : Heap 𝓤) (A : Atoms 𝓤) (W : Given
         -- [the slice; the lender's part; ν's token; the places behind; the amounts; _9 at 5; …; the token at 24]
         $ move ! (2 ∷ 24 ∷ []) $ join ! $ move ! (0 ∷ 1 ∷ 4 ∷ [])
         $ use3 W (raw (Bears 𝓤 H A at-mem exec .pre (to-all ν l₅ γ))) (asks ν l₅ γ)
-        -- [what the call asks; the lender's part; the places behind; _9 at 3; …; _6 at 9; what frees _5 at 11; _4 at 12;
-        -- _3 at 14; …; _0 at 20]
+        -- [what the call asks; the lender's part; the places behind; _9 at 3; …; _6 at 9; what frees _5 at 11; _4 at
+        -- 12; _3 at 14; …; _0 at 20]
         $ calls-at ! fm (Bears 𝓤 H A at-mem exec) known (to-all ν l₅ γ)
         (and-then ! (load ! (from ! (stop !)) (look ! 5 refl)) (and-then ! (load ! (from ! (stop !)) (look ! 14 refl))
         (and-then ! (load ! (from ! (stop !)) (look ! 12 refl)) (no-more !)))) (λ w.
@@ -264,8 +264,8 @@ module _ {M : Type 1} (𝓤 : URA M) (H : Heap 𝓤) (A : Atoms 𝓤) (W : Given
         $ facts ! Z.the-row (Is Z.the-row) (shows 𝓤 H A Z.the-row) t (w ∷ []) (λ gt.
         -- [the tokens; the last layers; true; the lender's part; the places behind; _9 at 5; …; _6 at 11; …]
         land ! (from ! (stop !)) (init ! 11 refl (LL.lawful Z.the-type Z′.the-laws 𝓤 H A W .typed t _ gt .0))
-        $ rewrite ! 11 (λ (v : Val). ‵ (fat fullShare Z′.mir l₆ 0 v)) (ap only (LL.tells Z.the-type Z′.the-laws t _ gt))
-        refl
+        $ rewrite ! 11 (λ (v : Val). ‵ (fat fullShare Z′.mir l₆ 0 v))
+        (ap only (LL.tells Z.the-type Z′.the-laws t _ gt)) refl
         -- ν ends, and the local comes back
         $ split ! $ lft-end ! tt $ move ! (0 ∷ 4 ∷ 2 ∷ [])
         $ use3 W (later (‵ (Arr (mem L.the-row) (length used) .lies (zs .0) l₅ 0)))
@@ -286,7 +286,8 @@ module _ {M : Type 1} (𝓤 : URA M) (H : Heap 𝓤) (A : Atoms 𝓤) (W : Given
         (LL.lawful T.the-type T′.the-laws 𝓤 H A W .typed (borne (zs .0 ++ rest) t) _
         (borne-is (zs .0 ++ rest) t gl (told t w gt)) .0))
         $ returns ! (look ! 20 refl) $ forget ! 0 refl $ forget ! 3 refl $ forget ! 5 refl $ forget ! 7 refl
-        $ forget ! 9 refl $ forget ! 12 refl $ forget ! 14 refl $ forget ! 16 refl $ forget ! 18 refl $ forget ! 20 refl
+        $ forget ! 9 refl $ forget ! 12 refl $ forget ! 14 refl $ forget ! 16 refl $ forget ! 18 refl
+        $ forget ! 20 refl
         $ move ! (20 ∷ 21 ∷ []) $ free1 ! $ move ! (18 ∷ 19 ∷ []) $ free1 ! $ move ! (16 ∷ 17 ∷ []) $ free1 !
         $ move ! (14 ∷ 15 ∷ []) $ free1 ! $ move ! (12 ∷ 13 ∷ []) $ free1 ! $ move ! (0 ∷ 11 ∷ []) $ free1 !
         $ move ! (8 ∷ 9 ∷ []) $ free1 ! $ move ! (6 ∷ 7 ∷ []) $ free1 ! $ move ! (4 ∷ 5 ∷ []) $ free1 !
