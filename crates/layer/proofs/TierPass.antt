@@ -13,10 +13,10 @@ use Rattle.layer.specs.declared.record.Layer.{Layer}
 use Rattle.layer.specs.declared.record.Sums.{Sums}
 use Rattle.layer.specs.declared.record.Borne.{Borne}
 use Rattle.layer.specs.declared.tier.Tier.{Tier}
-use Rattle.layer.specs.declared.tier.PlacesBorne.{PlacesBorne}
+use Rattle.layer.specs.declared.tier.TierBorne.{TierBorne}
 use Rattle.layer.specs.Layer.{sumsOf, borneThrough}
 use Rattle.layer.specs.Tier.{layersThrough, recoveriesThrough, chargesThrough, sumsThrough}
-use Rattle.layer.specs.Tier.{layersOf, tierThrough}
+use Rattle.layer.specs.Tier.{layersOf, tierAfter, tierThrough}
 use Rattle.layer.specs.Ranges.{Sound, Ample, AmpleForTier, SoundLayers, SoundTier}
 use Rattle.layer.proofs.Through.{afterEach, recoveredEach, chargedEach, borne-columns}
 use Rattle.layer.proofs.Through.{layers-each, recoveries-each, charges-each}
@@ -105,12 +105,10 @@ tier-layers t sound = record {
 pub none-ample : (s : Sums) → s .recovered .0 ≡ 0 → s .premium .0 ≡ 0 → AmpleForTier s
 none-ample s r p = record { recovered = omega arith; premium = omega arith }
 
-pub tier-passed : (xs : List ℕ) (t : Tier) (s : Sums) (b : PlacesBorne) → s .recovered .0 ≡ 0 → s .premium .0 ≡ 0
-    → b .layers ≡ layersThrough xs (layersOf t) ++ drop (t .count) (t .layers)
-    → b .sums ≡ sumsThrough xs s (layersOf t)
-    → record { tier = record { layers = b .layers; count = t .count }; sums = b .sums } ≡ tierThrough xs t
-tier-passed xs t s b r p ls is =
+pub tier-passed : (xs : List ℕ) (t : Tier) (s : Sums) (b : TierBorne) → s .recovered .0 ≡ 0 → s .premium .0 ≡ 0
+    → b .tier ≡ tierAfter xs t → b .sums ≡ sumsThrough xs s (layersOf t) → b ≡ tierThrough xs t
+tier-passed xs t s b r p after is =
     let e : s .recovered .0 + recoveriesThrough xs (layersOf t) ≡ recoveriesThrough xs (layersOf t) = omega arith in
     let e′ : s .premium .0 + chargesThrough xs (layersOf t) ≡ chargesThrough xs (layersOf t) = omega arith in
     let sums : b .sums ≡ tierThrough xs t .sums = is ∙ (λ j. sumsOf (e j) (e′ j)) in
-    λ j. record { tier = record { layers = ls j; count = t .count }; sums = sums j }
+    λ j. record { tier = after j; sums = sums j }

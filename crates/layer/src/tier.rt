@@ -1,10 +1,9 @@
 // The layers of one tier: each looks at the same subject amounts, and none sees another's remainder. They are lent as
 // a list of records, each brought up to date in its place.
 ghost use mathlib.Core.Path.{_≡_};
-ghost use mathlib.Core.List.{_++_};
 ghost use Prim.Native.Nat.{_≤_};
-ghost use lib.ListN.{take, drop};
-ghost use Rattle.layer.specs.Tier.{layersThrough, sumsThrough, tierThrough};
+ghost use lib.ListN.{take};
+ghost use Rattle.layer.specs.Tier.{layersThrough, sumsThrough, tierAfter, tierThrough};
 ghost use Rattle.layer.specs.Ranges.{SoundLayers, AmpleForTier, SoundTier};
 use crate::amount::Placed;
 use crate::record::Layer;
@@ -20,12 +19,6 @@ pub struct Tier {
 pub struct TierBorne {
     pub tier: Tier,
     pub sums: Sums,
-}
-
-// The eight places of a tier and the sums after subject amounts.
-struct PlacesBorne {
-    layers: [Layer; 8],
-    sums: Sums,
 }
 
 // Brings each layer of a lent list up to date in its place: amounts come to it, each in turn the subject, and its
@@ -45,16 +38,19 @@ fn bear_all(layers: &mut [Layer], subjects: &[u64], mut sums: Sums) -> Sums
     sums
 }
 
-// The same for the first `count` of eight places by value, which are lent here; the others stay.
-fn bear_first(layers: [Layer; 8], count: usize, subjects: &[u64], sums: Sums) -> PlacesBorne
+// The same for the tier of eight places by value, of which the first `count` are lent here; the others stay.
+fn bear_first(layers: [Layer; 8], count: usize, subjects: &[u64], sums: Sums) -> TierBorne
     requires { ⌜ (count ≤ 8) × SoundLayers (take count layers) × AmpleForTier sums ⌝ }
-    ensures { λ r. ⌜ (r .layers ≡ layersThrough (now (subjects .entry)) (take count layers) ++ drop count layers)
+    ensures { λ r. ⌜ (r .tier ≡ tierAfter (now (subjects .entry)) (record { layers = layers; count = count }))
         × (r .sums ≡ sumsThrough (now (subjects .entry)) sums (take count layers)) ⌝ }
 {
     let mut lent = layers;
     let after = bear_all(&mut lent[..count], subjects, sums);
-    PlacesBorne {
-        layers: lent,
+    TierBorne {
+        tier: Tier {
+            layers: lent,
+            count,
+        },
         sums: after,
     }
 }
@@ -66,20 +62,10 @@ impl Tier {
         ensures { λ r. ⌜ r ≡ tierThrough (now (subjects .entry)) self ⌝ }
     {
         let layers = self.layers;
-        let count = self.count;
         let none = Sums {
             recovered: Placed::none(),
             premium: Placed::none(),
         };
-        let borne = bear_first(layers, count, subjects, none);
-        let after = borne.layers;
-        let sums = borne.sums;
-        TierBorne {
-            tier: Tier {
-                layers: after,
-                count,
-            },
-            sums,
-        }
+        bear_first(layers, self.count, subjects, none)
     }
 }

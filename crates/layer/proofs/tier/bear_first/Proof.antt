@@ -25,13 +25,16 @@ use Rattle.layer.specs.Tier.{layersThrough, sumsThrough}
 use Rattle.layer.specs.Ranges.{SoundLayers, AmpleForTier}
 use Rattle.layer.specs.declared.record.Layer.{Layer}
 use Rattle.layer.specs.declared.record.Sums.{Sums}
-use Rattle.layer.specs.declared.tier.PlacesBorne.{PlacesBorne}
+use Rattle.layer.specs.declared.tier.Tier.{Tier}
+use Rattle.layer.specs.declared.tier.TierBorne.{TierBorne}
 use Rattle.layer.proofs.record.Layer as L
 use Rattle.layer.proofs.record.Layer.Laws as L′
 use Rattle.layer.proofs.record.Sums as Z
 use Rattle.layer.proofs.record.Sums.Laws as Z′
-use Rattle.layer.proofs.tier.PlacesBorne as T
-use Rattle.layer.proofs.tier.PlacesBorne.Laws as T′
+use Rattle.layer.proofs.tier.Tier as T
+use Rattle.layer.proofs.tier.Tier.Laws as T′
+use Rattle.layer.proofs.tier.TierBorne as B
+use Rattle.layer.proofs.tier.TierBorne.Laws as B′
 use Rattle.layer.proofs.tier.bear_all as all
 use Rattle.layer.proofs.tier.bear_all.Symbol as all-def
 use Rattle.layer.proofs.tier.bear_all.Symbol.{name as #layer·bear-all}
@@ -75,22 +78,34 @@ sums-vals = LL.vals Z.the-type Z′.the-laws
 abbrev sums-val : Sums → Val
 sums-val = LL.val Z.the-type Z′.the-laws
 
--- what is given back: places and sums
-abbrev borne : List Layer → Sums → PlacesBorne
-borne l t = record { layers = l; sums = t }
+-- the tier of n layers in eight places, and what is given back: it and sums
+abbrev tier : List Layer → ℕ → Tier
+tier l n = record { layers = l; count = n }
 
-abbrev borne-val : List Layer → Sums → Val
-borne-val l t = vstruct (vcons (layers-val l) (vcons (sums-val t) vnil))
+abbrev tier-val : List Layer → ℕ → Val
+tier-val l n = vstruct (vcons (layers-val l) (vcons (vint w64 n) vnil))
+
+abbrev borne : List Layer → ℕ → Sums → TierBorne
+borne l n t = record { tier = tier l n; sums = t }
+
+abbrev borne-val : List Layer → ℕ → Sums → Val
+borne-val l n t = vstruct (vcons (tier-val l n) (vcons (sums-val t) vnil))
 
 -- the relation of sums at the machine value that tells them
 told : (t : Sums) (w : Val) → Is Z.the-row t (w ∷ []) → Is Z.the-row t (sums-vals t)
 told t w g = LL.owes Z.the-type Z′.the-laws t (LL.owed Z.the-type Z′.the-laws t _ g)
 
-borne-is : (l : List Layer) (t : Sums) → IsArray l → Is Z.the-row t (sums-vals t)
-    → Is T.the-row (borne l t) (borne-val l t ∷ [])
-borne-is l t gl gt = (
-  (layers-vals l, (sums-vals t, tt)),
-  (refl, (local.into-is L.the-type L′.the-laws L′.the-plain 8 l _ gl, (gt, tt))),
+tier-is : (l : List Layer) (n : ℕ) → IsArray l → n < 2 ^ 64 → Is T.the-row (tier l n) (tier-val l n ∷ [])
+tier-is l n gl fits = (
+  (layers-vals l, (vint w64 n ∷ [], tt)),
+  (refl, (local.into-is L.the-type L′.the-laws L′.the-plain 8 l _ gl, ((refl, fits), tt))),
+)
+
+borne-is : (l : List Layer) (n : ℕ) (t : Sums) → IsArray l → n < 2 ^ 64 → Is Z.the-row t (sums-vals t)
+    → Is B.the-row (borne l n t) (borne-val l n t ∷ [])
+borne-is l n t gl fits gt = (
+  (tier-val l n ∷ [], (sums-vals t, tt)),
+  (refl, (tier-is l n gl fits, (gt, tt))),
 )
 
 module _ {M : Type 1} (𝓤 : URA M) (H : Heap 𝓤) (A : Atoms 𝓤) (W : Given 𝓤 H A) (at-mem : Memory → SProp 𝓤)
@@ -192,15 +207,15 @@ module _ {M : Type 1} (𝓤 : URA M) (H : Heap 𝓤) (A : Atoms 𝓤) (W : Given
   Said zs t = (t ≡ sumsThrough (e .now) s used) × (zs ≡ layersThrough (e .now) used)
 
   exits : (zs : List Layer) (t : Sums) → Said zs t → IsArray (zs ++ rest) → Is Z.the-row t (sums-vals t)
-      → ent 𝓤 (⋆ 𝓤 H A (token ∷ [])) (Post (borne-val (zs ++ rest) t))
+      → ent 𝓤 (⋆ 𝓤 H A (token ∷ [])) (Post (borne-val (zs ++ rest) n t))
   exits zs t said gl gt =
       qed W (token ∷ []) ∵ suffices ! _
       (ends-at 𝓤 H A first.ended stayed (first.clauses 𝓤 H A at-mem exec) W (((κ, tt), (q, tt), tt, a, vals), tt)
-      (borne-val (zs ++ rest) t) (borne (zs ++ rest) t) (tt, (tt, (tt, (tt, tt)))) (tt, (tt, (tt, (tt, tt)))))
-      $ says ! (ap (λ (l : List Layer). l ++ rest) (said .1), said .0) $ frame !
+      (borne-val (zs ++ rest) n t) (borne (zs ++ rest) n t) (tt, (tt, (tt, (tt, tt)))) (tt, (tt, (tt, (tt, tt)))))
+      $ says ! ((λ i. tier (said .1 i ++ rest) n), said .0) $ frame !
       $ nothing ! $ nothing ! $ fjoin ! $ nothing ! $ fjoin ! $ nothing ! $ fjoin ! $ nothing ! $ fjoin ! $ frame !
-      $ owned ! T.the-row (Is T.the-row) (LL.makes T.the-type T′.the-plain 𝓤 H A) (borne (zs ++ rest) t) _
-      (borne-is (zs ++ rest) t gl gt) $ done !
+      $ owned ! B.the-row (Is B.the-row) (LL.makes B.the-type B′.the-plain 𝓤 H A) (borne (zs ++ rest) n t) _
+      (borne-is (zs ++ rest) n t gl n-fits gt) $ done !
 
   -- the laws of eight places
   lawful : Lawful 𝓤 H A (Array L.the-row 8)
@@ -214,26 +229,26 @@ module _ {M : Type 1} (𝓤 : URA M) (H : Heap 𝓤) (A : Atoms 𝓤) (W : Given
         (token ∷ ‵ (owns (Array L.the-row 8 ∷ usize ∷ ShrSlice (named 0) κ u64 ∷ Z.the-row ∷ []) a vals) ∷ [])
         ∵ enter ! C Λ code.function passed _
         $ alloc1 ! (λ l₀. alloc1 ! (λ l₁. alloc1 ! (λ l₂. alloc1 ! (λ l₃. alloc1 ! (λ l₄. alloc1 ! (λ l₅.
-        alloc1 ! (λ l₆. alloc1 ! (λ l₇. alloc1 ! (λ l₈. alloc1 ! (λ l₉. alloc0 ! $ params1 !
-        $ pass1 ! (init ! 16 refl (lawful .typed ls _ g .0)) $ pass1 ! (init ! 14 refl (tt, record { fits = n-fits }))
-        $ pass1 ! (init ! 12 refl (tt, (tt, (record { fits = ge .0 }, tt))))
-        $ pass1 ! (init ! 10 refl (LL.lawful Z.the-type Z′.the-laws 𝓤 H A W .typed s _ gs .0)) $ pass0 !
-        -- [_9; …; _1; …; room for _0; …; the token; what the parameters own]
-        $ assigns ! (of-opd ! (load ! (from ! (stop !)) (look ! 16 refl))) (from ! (stop !))
-        (init ! 8 refl (lawful .typed ls _ g .0))
-        $ assigns ! (addr ! (from ! (stop !))) (from ! (stop !)) (init ! 4 refl (tt, tt))
+        alloc1 ! (λ l₆. alloc1 ! (λ l₇. alloc1 ! (λ l₈. alloc1 ! (λ l₉. alloc1 ! (λ l₁₀. alloc0 ! $ params1 !
+        $ pass1 ! (init ! 18 refl (lawful .typed ls _ g .0)) $ pass1 ! (init ! 16 refl (tt, record { fits = n-fits }))
+        $ pass1 ! (init ! 14 refl (tt, (tt, (record { fits = ge .0 }, tt))))
+        $ pass1 ! (init ! 12 refl (LL.lawful Z.the-type Z′.the-laws 𝓤 H A W .typed s _ gs .0)) $ pass0 !
+        -- [_10; …; _1; …; room for _0; …; the token; what the parameters own]
+        $ assigns ! (of-opd ! (load ! (from ! (stop !)) (look ! 18 refl))) (from ! (stop !))
+        (init ! 10 refl (lawful .typed ls _ g .0))
+        $ assigns ! (addr ! (from ! (stop !))) (from ! (stop !)) (init ! 6 refl (tt, tt))
         $ assigns !
-        (agg ! (and-then ! (load ! (from ! (stop !)) (look ! 4 refl))
-        (and-then ! (load ! (from ! (stop !)) (look ! 14 refl)) (no-more !))))
-        (from ! (stop !)) (init ! 2 refl (tt, (tt, (record { fits = n-fits }, tt))))
-        $ rewrite ! 2
+        (agg ! (and-then ! (load ! (from ! (stop !)) (look ! 6 refl))
+        (and-then ! (load ! (from ! (stop !)) (look ! 16 refl)) (no-more !))))
+        (from ! (stop !)) (init ! 4 refl (tt, (tt, (record { fits = n-fits }, tt))))
+        $ rewrite ! 4
         (λ (k : ℕ). ‵
         (fat fullShare (sliceTy (tyRef erased mut (pointee (L.the-row .written)))) l₈ 0 (sliceVal (l₅, 0) k)))
         (sym count) refl
-        $ move ! (21 ∷ []) $ fsplit ! $ let-go ! $ fsplit ! $ let-go ! $ fsplit ! $ move ! (1 ∷ []) $ let-go !
-        -- [the amounts; _9 at 1; …; _5 at 9; …; _0 at 19; …; the token at 21]: the first n layers of the local are
+        $ move ! (23 ∷ []) $ fsplit ! $ let-go ! $ fsplit ! $ let-go ! $ fsplit ! $ move ! (1 ∷ []) $ let-go !
+        -- [the amounts; _10 at 1; …; _5 at 11; …; _0 at 21; …; the token at 23]: the first n layers of the local are
         -- lent for a lifetime ν of the call
-        $ move ! (9 ∷ [])
+        $ move ! (11 ∷ [])
         $ rewrite ! 0
         (λ (l : List Layer). ‵
         (fat fullShare (local.ty L.the-type L′.the-laws L′.the-plain 8) l₅ 0 (layers-val l)))
@@ -244,14 +259,14 @@ module _ {M : Type 1} (𝓤 : URA M) (H : Heap 𝓤) (A : Atoms 𝓤) (W : Given
         $ use1 W
         (later (some (λ (γ : GName). ‵ (slice ν l₅ γ) ⊛ ‵ (flent (ν ∷ []) (Held L.the-row (length used) l₅ 0 γ)))))
         (lends-slice 𝓤 H A W L.the-row (named 0) (ν ∷ []) used l₅ 0 room) $ await ! tt $ pick ! (λ γ. split !
-        -- [the slice; the lender's part; ν's token; the places behind; the amounts; _9 at 5; …; the token at 24]
-        $ move ! (2 ∷ 24 ∷ []) $ join ! $ move ! (0 ∷ 1 ∷ 4 ∷ [])
+        -- [the slice; the lender's part; ν's token; the places behind; the amounts; _10 at 5; …; the token at 26]
+        $ move ! (2 ∷ 26 ∷ []) $ join ! $ move ! (0 ∷ 1 ∷ 4 ∷ [])
         $ use3 W (raw (Bears 𝓤 H A at-mem exec .pre (to-all ν l₅ γ))) (asks ν l₅ γ)
-        -- [what the call asks; the lender's part; the places behind; _9 at 3; …; _6 at 9; what frees _5 at 11; _4 at
-        -- 12; _3 at 14; …; _0 at 20]
+        -- [what the call asks; the lender's part; the places behind; _10 at 3; …; _6 at 11; what frees _5 at 13; _4 at
+        -- 14; _3 at 16; …; _0 at 22]
         $ calls-at ! fm (Bears 𝓤 H A at-mem exec) known (to-all ν l₅ γ)
-        (and-then ! (load ! (from ! (stop !)) (look ! 5 refl)) (and-then ! (load ! (from ! (stop !)) (look ! 14 refl))
-        (and-then ! (load ! (from ! (stop !)) (look ! 12 refl)) (no-more !)))) (λ w.
+        (and-then ! (load ! (from ! (stop !)) (look ! 7 refl)) (and-then ! (load ! (from ! (stop !)) (look ! 16 refl))
+        (and-then ! (load ! (from ! (stop !)) (look ! 14 refl)) (no-more !)))) (λ w.
         use1 W
         (later (some (λ (t : Sums). ((‵ (flft (ν ∷ []) fullShare) ⊛ token) ⊛ ‵ (Z.the-row .own t (w ∷ [])))
         ⊛ raw (ensured 𝓤 H A all.ended (all.clauses 𝓤 H A at-mem exec) (ν ∷ [], (κ, tt)) (args l₅ γ) tt t))))
@@ -262,9 +277,9 @@ module _ {M : Type 1} (𝓤 : URA M) (H : Heap 𝓤) (A : Atoms 𝓤) (W : Given
         (id⊢ 𝓤 _) $ pick ! (λ zs. split ! $ move ! (1 ∷ []) $ heard ! (Said (zs .0) t) (λ said.
         fsplit ! $ fsplit ! $ move ! (1 ∷ []) $ feqL ! (λ l. move ! (2 ∷ []) $ split ! $ move ! (1 ∷ [])
         $ facts ! Z.the-row (Is Z.the-row) (shows 𝓤 H A Z.the-row) t (w ∷ []) (λ gt.
-        -- [the tokens; the last layers; true; the lender's part; the places behind; _9 at 5; …; _6 at 11; …]
-        land ! (from ! (stop !)) (init ! 11 refl (LL.lawful Z.the-type Z′.the-laws 𝓤 H A W .typed t _ gt .0))
-        $ rewrite ! 11 (λ (v : Val). ‵ (fat fullShare Z′.mir l₆ 0 v))
+        -- [the tokens; the last layers; true; the lender's part; the places behind; _10 at 5; …; _6 at 13; …]
+        land ! (from ! (stop !)) (init ! 13 refl (LL.lawful Z.the-type Z′.the-laws 𝓤 H A W .typed t _ gt .0))
+        $ rewrite ! 13 (λ (v : Val). ‵ (fat fullShare Z′.mir l₆ 0 v))
         (ap only (LL.tells Z.the-type Z′.the-laws t _ gt)) refl
         -- ν ends, and the local comes back
         $ split ! $ lft-end ! tt $ move ! (0 ∷ 4 ∷ 2 ∷ [])
@@ -275,24 +290,31 @@ module _ {M : Type 1} (𝓤 : URA M) (H : Heap 𝓤) (A : Atoms 𝓤) (W : Given
         (‵ (fat fullShare (local.ty L.the-type L′.the-laws L′.the-plain 8) l₅ 0 (layers-val (zs .0 ++ rest)))))
         (local.back L.the-type L′.the-laws L′.the-plain 8 𝓤 H A W l₅ (length used) used (zs .0) rest l
         (eight-again (zs .0) l)) $ learn ! (λ gl.
-        -- [_5; the token; true; _9 at 3; …; _6 at 9; what frees _5 at 11; _4 at 12; …; _0 at 20]
+        -- [_5; the token; true; _10 at 3; _9 at 5; …; _6 at 11; what frees _5 at 13; _4 at 14; …; _0 at 22]
         assigns ! (of-opd ! (load ! (from ! (stop !)) (look ! 0 refl))) (from ! (stop !))
-        (init ! 3 refl (lawful .typed (zs .0 ++ rest) _ gl .0))
+        (init ! 5 refl (lawful .typed (zs .0 ++ rest) _ gl .0))
+        $ assigns !
+        (agg ! (and-then ! (load ! (from ! (stop !)) (look ! 5 refl))
+        (and-then ! (load ! (from ! (stop !)) (look ! 18 refl)) (no-more !))))
+        (from ! (stop !))
+        (init ! 3 refl
+        (LL.lawful T.the-type T′.the-laws 𝓤 H A W .typed (tier (zs .0 ++ rest) n) _
+        (tier-is (zs .0 ++ rest) n gl n-fits) .0))
         $ assigns !
         (agg ! (and-then ! (load ! (from ! (stop !)) (look ! 3 refl))
-        (and-then ! (load ! (from ! (stop !)) (look ! 9 refl)) (no-more !))))
+        (and-then ! (load ! (from ! (stop !)) (look ! 11 refl)) (no-more !))))
         (from ! (stop !))
-        (init ! 20 refl
-        (LL.lawful T.the-type T′.the-laws 𝓤 H A W .typed (borne (zs .0 ++ rest) t) _
-        (borne-is (zs .0 ++ rest) t gl (told t w gt)) .0))
-        $ returns ! (look ! 20 refl) $ forget ! 0 refl $ forget ! 3 refl $ forget ! 5 refl $ forget ! 7 refl
-        $ forget ! 9 refl $ forget ! 12 refl $ forget ! 14 refl $ forget ! 16 refl $ forget ! 18 refl
-        $ forget ! 20 refl
-        $ move ! (20 ∷ 21 ∷ []) $ free1 ! $ move ! (18 ∷ 19 ∷ []) $ free1 ! $ move ! (16 ∷ 17 ∷ []) $ free1 !
-        $ move ! (14 ∷ 15 ∷ []) $ free1 ! $ move ! (12 ∷ 13 ∷ []) $ free1 ! $ move ! (0 ∷ 11 ∷ []) $ free1 !
-        $ move ! (8 ∷ 9 ∷ []) $ free1 ! $ move ! (6 ∷ 7 ∷ []) $ free1 ! $ move ! (4 ∷ 5 ∷ []) $ free1 !
-        $ move ! (2 ∷ 3 ∷ []) $ free1 ! $ free0 ! $ keep ! (0 ∷ [])
-        $ by ! (exits (zs .0) t said gl (told t w gt)))))))))))))))))))))
+        (init ! 22 refl
+        (LL.lawful B.the-type B′.the-laws 𝓤 H A W .typed (borne (zs .0 ++ rest) n t) _
+        (borne-is (zs .0 ++ rest) n t gl n-fits (told t w gt)) .0))
+        $ returns ! (look ! 22 refl) $ forget ! 0 refl $ forget ! 3 refl $ forget ! 5 refl $ forget ! 7 refl
+        $ forget ! 9 refl $ forget ! 11 refl $ forget ! 14 refl $ forget ! 16 refl $ forget ! 18 refl
+        $ forget ! 20 refl $ forget ! 22 refl
+        $ move ! (22 ∷ 23 ∷ []) $ free1 ! $ move ! (20 ∷ 21 ∷ []) $ free1 ! $ move ! (18 ∷ 19 ∷ []) $ free1 !
+        $ move ! (16 ∷ 17 ∷ []) $ free1 ! $ move ! (14 ∷ 15 ∷ []) $ free1 ! $ move ! (0 ∷ 13 ∷ []) $ free1 !
+        $ move ! (10 ∷ 11 ∷ []) $ free1 ! $ move ! (8 ∷ 9 ∷ []) $ free1 ! $ move ! (6 ∷ 7 ∷ []) $ free1 !
+        $ move ! (4 ∷ 5 ∷ []) $ free1 ! $ move ! (2 ∷ 3 ∷ []) $ free1 ! $ free0 ! $ keep ! (0 ∷ [])
+        $ by ! (exits (zs .0) t said gl (told t w gt))))))))))))))))))))))
 
 module _ {M : Type 1} (𝓤 : URA M) (H : Heap 𝓤) (A : Atoms 𝓤) (W : Given 𝓤 H A) (at-mem : Memory → SProp 𝓤)
     (exec : Routine → Fun 𝓤) where
