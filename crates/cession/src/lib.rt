@@ -1,5 +1,6 @@
 // The public calls, with C's calling convention: reading and writing a table, opening a year, running events. Each
-// answers every input, and each promise is that of the call below.
+// answers every input. Each stands on the call below; a run is lent its standing, and `run_from` is for callers in
+// Rattle that lend none.
 ghost use mathlib.Core.Path.{_≡_};
 ghost use lib.ListN.{length};
 ghost use Rattle.table_text.specs.Read.{readOf};

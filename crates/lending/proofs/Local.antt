@@ -34,27 +34,27 @@ use denote.Struct.Declared.{Declared, fields, field}
 use denote.Struct.Declared as declared
 use denote.Struct.Laws as LL
 
+-- where the elements after xs lie, in a row from the place o on
+abbrev pub past : (R : RattleType) → List (R .Denot) → ℕ → ℕ
+past R xs o = place (mem R .size) o (length xs)
+
 -- a row of elements is a row of the first ones and a row of the others behind them
 module _ {M : Type 1} (𝓤 : URA M) (H : Heap 𝓤) (A : Atoms 𝓤) (W : Given 𝓤 H A) (R : RattleType) (q : Share) where
-  -- where what follows xs lies
-  abbrev behind : List (R .Denot) → ℕ → ℕ
-  behind xs o = place (mem R .size) o (length xs)
-
   row-apart : (xs ys : List (R .Denot)) (b o : ℕ) → ent 𝓤 (sem 𝓤 H A (row R q (xs ++ ys) b o))
-      (sep 𝓤 (sem 𝓤 H A (row R q xs b o)) (sem 𝓤 H A (row R q ys b (behind xs o))))
+      (sep 𝓤 (sem 𝓤 H A (row R q xs b o)) (sem 𝓤 H A (row R q ys b (past R xs o))))
   row-apart [] ys b o = qed W (‵ (row R q ys b o) ∷ []) ∵ nothing ! $ done !
   row-apart (x ∷ xs) ys b o =
       qed W (‵ (row R q (x ∷ (xs ++ ys)) b o) ∷ []) ∵ fsplit ! $ move ! (1 ∷ [])
       $ use1 W
-      (‵ (row R q xs b (place (mem R .size) o 1)) ⊛ ‵ (row R q ys b (behind (x ∷ xs) o)))
+      (‵ (row R q xs b (place (mem R .size) o 1)) ⊛ ‵ (row R q ys b (past R (x ∷ xs) o)))
       (row-apart xs ys b (place (mem R .size) o 1)) $ split ! $ move ! (2 ∷ 0 ∷ []) $ fjoin ! $ done !
 
   row-whole : (xs ys : List (R .Denot)) (b o : ℕ)
-      → ent 𝓤 (sep 𝓤 (sem 𝓤 H A (row R q xs b o)) (sem 𝓤 H A (row R q ys b (behind xs o))))
+      → ent 𝓤 (sep 𝓤 (sem 𝓤 H A (row R q xs b o)) (sem 𝓤 H A (row R q ys b (past R xs o))))
       (sem 𝓤 H A (row R q (xs ++ ys) b o))
   row-whole [] ys b o = qed W (‵ ftrue ∷ ‵ (row R q ys b o) ∷ []) ∵ drop ! $ done !
   row-whole (x ∷ xs) ys b o =
-      qed W (‵ (row R q (x ∷ xs) b o) ∷ ‵ (row R q ys b (behind (x ∷ xs) o)) ∷ []) ∵ fsplit ! $ move ! (1 ∷ 2 ∷ [])
+      qed W (‵ (row R q (x ∷ xs) b o) ∷ ‵ (row R q ys b (past R (x ∷ xs) o)) ∷ []) ∵ fsplit ! $ move ! (1 ∷ 2 ∷ [])
       $ use2 W (‵ (row R q (xs ++ ys) b (place (mem R .size) o 1))) (row-whole xs ys b (place (mem R .size) o 1))
       $ move ! (1 ∷ 0 ∷ []) $ fjoin ! $ done !
 
@@ -98,13 +98,9 @@ module _ (D : Declared) (L : LL.Laws D) (pl : Plains (fields D)) (n : ℕ) where
   ty = tyArray (lone (R .mir)) n
 
   module _ {M : Type 1} (𝓤 : URA M) (H : Heap 𝓤) (A : Atoms 𝓤) (W : Given 𝓤 H A) (b : ℕ) where
-    -- where the elements after xs lie
-    abbrev pub past : List (D .D) → ℕ
-    past xs = place (mem R .size) 0 (length xs)
-
     pub laid : (xs ys : List (D .D)) → Is (Array R n) (xs ++ ys) (vals (xs ++ ys))
         → ent 𝓤 (H .at fullShare ty b 0 (val (xs ++ ys)))
-        (sep 𝓤 (sem 𝓤 H A (cells (mem R) xs b 0)) (sem 𝓤 H A (row R fullShare ys b (past xs))))
+        (sep 𝓤 (sem 𝓤 H A (cells (mem R) xs b 0)) (sem 𝓤 H A (row R fullShare ys b (past R xs 0))))
     unfolding partOf
     laid xs ys g =
         qed W (‵ (fat fullShare ty b 0 (val (xs ++ ys))) ∷ [])
@@ -116,16 +112,16 @@ module _ (D : Declared) (L : LL.Laws D) (pl : Plains (fields D)) (n : ℕ) where
         (vals (xs ++ ys))
         $ use1 W (‵ (arr-parts (shares R) n .part fullShare (xs ++ ys) b 0))
         (array-apart 𝓤 H A W R fullShare tt n (xs ++ ys) b 0) $ fsplit ! $ drop !
-        $ use1 W (‵ (row R fullShare xs b 0) ⊛ ‵ (row R fullShare ys b (past xs)))
+        $ use1 W (‵ (row R fullShare xs b 0) ⊛ ‵ (row R fullShare ys b (past R xs 0)))
         (row-apart 𝓤 H A W R fullShare xs ys b 0) $ split !
         $ use1 W (‵ (cells (mem R) xs b 0)) (whole-in 𝓤 H A W R xs b 0) $ done !
 
     pub back : (k : ℕ) (xs zs ys : List (D .D)) → length zs ≡ length xs → length (zs ++ ys) ≡ n
-        → ent 𝓤 (sep 𝓤 (sem 𝓤 H A (Arr (mem R) k .lies zs b 0)) (sem 𝓤 H A (row R fullShare ys b (past xs))))
+        → ent 𝓤 (sep 𝓤 (sem 𝓤 H A (Arr (mem R) k .lies zs b 0)) (sem 𝓤 H A (row R fullShare ys b (past R xs 0))))
         (guard 𝓤 (Is (Array R n) (zs ++ ys) (vals (zs ++ ys))) (H .at fullShare ty b 0 (val (zs ++ ys))))
     unfolding partOf
     back k xs zs ys same l =
-        qed W (‵ (Arr (mem R) k .lies zs b 0) ∷ ‵ (row R fullShare ys b (past xs)) ∷ []) ∵ fsplit ! $ drop !
+        qed W (‵ (Arr (mem R) k .lies zs b 0) ∷ ‵ (row R fullShare ys b (past R xs 0)) ∷ []) ∵ fsplit ! $ drop !
         $ use1 W (‵ (row R fullShare zs b 0)) (whole-out 𝓤 H A W R zs b 0)
         $ rewrite ! 1 (λ (m : ℕ). ‵ (row R fullShare ys b (place (mem R .size) 0 m))) (sym same) refl
         $ use2 W (‵ (row R fullShare (zs ++ ys) b 0)) (row-whole 𝓤 H A W R fullShare zs ys b 0)

@@ -2,7 +2,7 @@
 -- is opened, given by value to `engine::run::run`, and closed at the standing that this gives back. All that is known
 -- of that run is its contract.
 -- Assumes nothing.
-use Rattle.lending.proofs.Names.{_≡_, refl, ap, [], _∷_, List, true, ℕ, length, URA, fullShare, named, Val, vptr}
+use Rattle.lending.proofs.Names.{_≡_, refl, ap, [], _∷_, List, ℕ, length, URA, fullShare, named, Val, vptr}
 use Rattle.lending.proofs.Names.{SProp, ent, id⊢, emp, via, fst∗, Lft, Share, GName, ftrue, flft, fobs, fbor, fat, Fml}
 use Rattle.lending.proofs.Names.{Memory, Routine, Heap, WpFn, Tables, Calls, Loops, Atoms, FmC, fmOf, Fun, fact}
 use Rattle.lending.proofs.Names.{givenOf, tables, tablesOf, Given, Item, ‵, raw, _⊛_, ⋆, some, later, _$_, _∵_, !, qed}
@@ -35,6 +35,7 @@ use Rattle.engine.proofs.run.run as by-value
 use Rattle.engine.proofs.run.run.Symbol as by-value-def
 use Rattle.engine.proofs.run.run.Symbol.{name as #engine·run}
 use Rattle.engine.proofs.run.run.Met as by-value-thm
+use Rattle.cession.proofs.Values.{programme-vals, standing-vals}
 use Rattle.cession.proofs.cession_run.Key.{name as #cession·run}
 use Rattle.cession.proofs.cession_run as run
 use Rattle.cession.proofs.cession_run.Statement as stated
@@ -49,13 +50,6 @@ stayed = (
     (stay-dropped (shrSliceOf (1 ∷ []) tt (plain (λ _. u8))) yes, (gave-slice (2 ∷ []) tt (plain (λ _. u8)), tt)),
   ),
 )
-
--- the machine values of a programme and of a standing
-abbrev programme-vals : Programme → List Val
-programme-vals = LL.vals P.the-type P′.the-laws
-
-abbrev standing-vals : Standing → List Val
-standing-vals = LL.vals S.the-type S′.the-laws
 
 -- what whoever holds a `Ran` knows of its parts
 answer-of : (r : Ran) (w : Val) → Is R.the-row r (w ∷ [])

@@ -2,7 +2,7 @@
 -- local, which is lent to `cession_run` for a lifetime made for the call and comes back at the standing that its
 -- contract says.
 -- Assumes nothing.
-use Rattle.lending.proofs.Names.{_≡_, refl, ap, [], _∷_, List, true, ℕ, length, URA, fullShare, named, Val, vptr}
+use Rattle.lending.proofs.Names.{_≡_, refl, ap, [], _∷_, List, ℕ, length, URA, fullShare, named, Val, vptr}
 use Rattle.lending.proofs.Names.{SProp, ent, id⊢, emp, via, fst∗, Lft, Share, GName, ftrue, flft, fat, Fml, flent}
 use Rattle.lending.proofs.Names.{Memory, Routine, Heap, WpFn, Tables, Calls, Loops, Atoms, FmC, fmOf, Fun, fact}
 use Rattle.lending.proofs.Names.{givenOf, tables, tablesOf, Given, Item, ‵, raw, _⊛_, ⋆, some, later, given, _$_, _∵_}
@@ -32,6 +32,7 @@ use Rattle.engine.specs.declared.run.Ran.{Ran}
 use Rattle.engine.specs.Run.{RanAs}
 use Rattle.engine.proofs.run.Ran as R
 use Rattle.engine.proofs.run.Ran.Laws as R′
+use Rattle.cession.proofs.Values.{programme-vals, standing-vals}
 use Rattle.cession.proofs.cession_run as run
 use Rattle.cession.proofs.cession_run.Symbol as run-def
 use Rattle.cession.proofs.cession_run.Symbol.{name as #cession·run}
@@ -51,12 +52,7 @@ stayed = (
   ),
 )
 
-abbrev programme-vals : Programme → List Val
-programme-vals = LL.vals P.the-type P′.the-laws
-
-abbrev standing-vals : Standing → List Val
-standing-vals = LL.vals S.the-type S′.the-laws
-
+-- the machine values of an answer with a standing
 abbrev ran-vals : Ran → List Val
 ran-vals = LL.vals R.the-type R′.the-laws
 

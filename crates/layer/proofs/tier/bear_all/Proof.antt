@@ -23,12 +23,14 @@ use Rattle.lending.proofs.Names.{goes-slice}
 use Rattle.lending.proofs.Closing.{followed}
 use Rattle.lending.proofs.Loop.{whiles, out}
 use denote.Struct.Laws as LL
+use Rattle.lists.proofs.Cases.{by-test}
 use Rattle.layer.specs.Layer.{termsOf, layerOf, borneThrough}
 use Rattle.layer.specs.Tier.{layersThrough, sumsThrough}
 use Rattle.layer.specs.Ranges.{Sound, Ample, SoundLayers, AmpleForTier}
 use Rattle.layer.specs.declared.record.Layer.{Layer}
 use Rattle.layer.specs.declared.record.Sums.{Sums}
 use Rattle.layer.specs.declared.record.Borne.{Borne}
+use Rattle.layer.proofs.Values.{sums-vals, sums-val}
 use Rattle.layer.proofs.TierPass.{Passed, none-passed, next-bears, one-passed, layers-passed, sums-passed}
 use Rattle.layer.proofs.record.Layer as L
 use Rattle.layer.proofs.record.Layer.Laws as L′
@@ -63,15 +65,9 @@ width = 64
 abbrev none : Layer
 none = layerOf (termsOf 0 0 0 0 0 0 0) 0
 
--- the machine values of a layer and of sums
+-- the machine values of a layer
 abbrev layer-vals : Layer → List Val
 layer-vals = LL.vals L.the-type L′.the-laws
-
-abbrev sums-vals : Sums → List Val
-sums-vals = LL.vals Z.the-type Z′.the-laws
-
-abbrev sums-val : Sums → Val
-sums-val = LL.val Z.the-type Z′.the-laws
 
 -- what whoever holds a `Borne` knows of its parts
 layer-of : (r : Borne) (w : Val) → Is B.the-row r (w ∷ []) → Is L.the-row (r .layer) (layer-vals (r .layer))
@@ -85,10 +81,10 @@ abbrev Bears : {M : Type 1} (𝓤 : URA M) (H : Heap 𝓤) (A : Atoms 𝓤) (at-
     (exec : Routine → Fun 𝓤) → Contract 𝓤
 Bears 𝓤 H A at-mem exec = tripleOf 𝓤 H A each.signature (each.spec 𝓤 H A at-mem exec)
 
--- a test, by cases
-on-test : {X : Type 1} (t : Bool) → (t ≡ true → X) → (t ≡ false → X) → X
-on-test true y n = y refl
-on-test false y n = n refl
+-- the test of the loop, by cases
+on-less : {X : Type 1} (i n : ℕ) → (ltb i n ≡ true → i < n → X) → (ltb i n ≡ false → n ≤ i → X) → X
+on-less i n y e =
+    by-test (ltb i n) (λ t. y (sym t) (ltb-true i n (sym t))) (λ t. e (sym t) (ltb-false i n (sym t)))
 
 -- the types of the locals that are no structs
 abbrev word : Ty
@@ -129,7 +125,7 @@ module _ {M : Type 1} (𝓤 : URA M) (H : Heap 𝓤) (A : Atoms 𝓤) (W : Given
       walkOf 𝓤 H A all.ended stayed (all.clauses 𝓤 H A at-mem exec) .post
       (((κ, (κ₁, tt)), (q, (q₁, tt)), tt, a, vals), tt)
 
-  -- the layers and the sums at the end
+  -- the layers at the end
   abbrev after : List Layer
   after = layersThrough (e .now) ys
 
@@ -298,42 +294,42 @@ module _ {M : Type 1} (𝓤 : URA M) (H : Heap 𝓤) (A : Atoms 𝓤) (W : Given
         (from ! (stop !)) (init ! 14 refl (tt, record { fits = room .0 }))
         $ assigns ! (bin ! (load ! (from ! (stop !)) (look ! 18 refl)) (load ! (from ! (stop !)) (look ! 14 refl)) tt)
         (from ! (stop !)) (init ! 12 refl (tt, tt))
-        $ on-test (ltb (u .i) n)
-        (λ yes′. rewrite ! 12 (λ (t : Bool). ‵ (fat fullShare tyBool l₇ 0 (vbool t))) yes′ refl
+        $ on-less (u .i) n
+        (λ yes′ more. rewrite ! 12 (λ (t : Bool). ‵ (fat fullShare tyBool l₇ 0 (vbool t))) yes′ refl
         $ stays ! (load ! (from ! (stop !)) (look ! 12 refl))
         -- the layer at i is taken out of the row and read
         $ assigns !
         (bin ! (load ! (from ! (stop !)) (look ! 18 refl)) (lit ! tt)
-        (record { fits = offset-fits u (ltb-true (u .i) n yes′) }))
-        (from ! (stop !)) (store ! 14 refl (tt, record { fits = offset-fits u (ltb-true (u .i) n yes′) }))
+        (record { fits = offset-fits u more }))
+        (from ! (stop !)) (store ! 14 refl (tt, record { fits = offset-fits u more }))
         $ assigns !
         (bin ! (load ! (from ! (fld ! refl (stop !))) (look-in ! 24 (sub ! 0 refl (whole !))))
         (load ! (from ! (stop !)) (look ! 14 refl)) tt)
         (from ! (stop !)) (init ! 10 refl (tt, tt))
         $ rewrite ! 10 (λ (p : ℕ). ‵ (fat fullShare tyPtr l₈ 0 (vptr b p))) (sym (place-is width o (u .i))) refl
         $ elem-out ! L.the-row (Is L.the-row) (shows 𝓤 H A L.the-row) layer-vals (LL.tells L.the-type L′.the-laws)
-        fullShare (u .ls) (u .i) none b o (inside u (ltb-true (u .i) n yes′)) (λ gy. move ! (1 ∷ []) $ let-go !
+        fullShare (u .ls) (u .i) none b o (inside u more) (λ gy. move ! (1 ∷ []) $ let-go !
         -- [the layer's cell; the others; the open borrow; obs; auth; the amounts; their token; _10 at 7; …]
         $ assigns ! (of-opd ! (load ! (from ! (hop ! (look ! 11 refl) (stop !))) (look-raw ! 0 refl)))
-        (from ! (stop !)) (init ! 9 refl (LL.lawful L.the-type L′.the-laws 𝓤 H A W .typed (y u (ltb-true (u .i) n yes′)) _ gy .0))
+        (from ! (stop !)) (init ! 9 refl (LL.lawful L.the-type L′.the-laws 𝓤 H A W .typed (y u more) _ gy .0))
         $ move ! (5 ∷ [])
         $ use1 W (‵ amounts ⊛ ‵ amounts) (shr-slice-copy 𝓤 H A W (named 1) κ₁ u64 .twice e (slice-vals e)) $ split !
         $ move ! (7 ∷ 0 ∷ [])
-        $ use2 W (raw (Bears 𝓤 H A at-mem exec .pre (to-step (y u (ltb-true (u .i) n yes′)) (u .t))))
-        (asks (y u (ltb-true (u .i) n yes′)) (u .t) gy (u .is) (bears u (ltb-true (u .i) n yes′)))
+        $ use2 W (raw (Bears 𝓤 H A at-mem exec .pre (to-step (y u more) (u .t))))
+        (asks (y u more) (u .t) gy (u .is) (bears u more))
         -- [what the step asks; the amounts; the layer's cell; the others; the open borrow; obs; auth; _10 at 7; …]
-        $ calls-at ! fm (Bears 𝓤 H A at-mem exec) known (to-step (y u (ltb-true (u .i) n yes′)) (u .t))
+        $ calls-at ! fm (Bears 𝓤 H A at-mem exec) known (to-step (y u more) (u .t))
         (and-then ! (load ! (from ! (stop !)) (look ! 9 refl)) (and-then ! (load ! (from ! (stop !)) (look ! 23 refl))
         (and-then ! (load ! (from ! (stop !)) (look ! 21 refl)) (no-more !)))) (λ w.
         use1 W
         (later (some (λ (r : Borne). (token ⊛ ‵ (B.the-row .own r (w ∷ [])))
         ⊛ raw
         (ensured 𝓤 H A each.ended (each.clauses 𝓤 H A at-mem exec) (κ₁, tt)
-        (step-args (y u (ltb-true (u .i) n yes′)) (u .t)) tt r))))
+        (step-args (y u more) (u .t)) tt r))))
         (id⊢ 𝓤 _) $ await ! tt $ pick ! (λ r. split ! $ move ! (1 ∷ [])
-        $ use1 W (raw (fact 𝓤 (r ≡ borneThrough (e .now) (u .t) (y u (ltb-true (u .i) n yes′)))))
-        (said (y u (ltb-true (u .i) n yes′)) (u .t) r)
-        $ heard ! (r ≡ borneThrough (e .now) (u .t) (y u (ltb-true (u .i) n yes′))) (λ is. split ! $ move ! (1 ∷ [])
+        $ use1 W (raw (fact 𝓤 (r ≡ borneThrough (e .now) (u .t) (y u more))))
+        (said (y u more) (u .t) r)
+        $ heard ! (r ≡ borneThrough (e .now) (u .t) (y u more)) (λ is. split ! $ move ! (1 ∷ [])
         $ facts ! B.the-row (Is B.the-row) (shows 𝓤 H A B.the-row) r (w ∷ []) (λ gr.
         -- [the token; the amounts; the layer's cell; the others; the open borrow; obs; auth; _10 at 7; …]
         land ! (from ! (stop !)) (init ! 17 refl (LL.lawful B.the-type B′.the-laws 𝓤 H A W .typed r _ gr .0))
@@ -342,8 +338,8 @@ module _ {M : Type 1} (𝓤 : URA M) (H : Heap 𝓤) (A : Atoms 𝓤) (W : Given
         -- the new record is stored and put into the row, and the sums and i move on
         $ assigns !
         (bin ! (load ! (from ! (stop !)) (look ! 19 refl)) (lit ! tt)
-        (record { fits = offset-fits u (ltb-true (u .i) n yes′) }))
-        (from ! (stop !)) (store ! 15 refl (tt, record { fits = offset-fits u (ltb-true (u .i) n yes′) }))
+        (record { fits = offset-fits u more }))
+        (from ! (stop !)) (store ! 15 refl (tt, record { fits = offset-fits u more }))
         $ assigns !
         (bin ! (load ! (from ! (fld ! refl (stop !))) (look-in ! 25 (sub ! 0 refl (whole !))))
         (load ! (from ! (stop !)) (look ! 15 refl)) tt)
@@ -358,18 +354,18 @@ module _ {M : Type 1} (𝓤 : URA M) (H : Heap 𝓤) (A : Atoms 𝓤) (W : Given
         $ owned ! L.the-row (Is L.the-row) (LL.makes L.the-type L′.the-plain 𝓤 H A) (r .layer) _ (layer-of r w gr)
         $ move ! (3 ∷ 0 ∷ 4 ∷ [])
         $ elem-put ! L.the-row fullShare (u .ls) (u .i) (r .layer) (layer-vals (r .layer)) b o
-        (inside u (ltb-true (u .i) n yes′))
+        (inside u more)
         $ move ! (0 ∷ 3 ∷ 4 ∷ 5 ∷ 2 ∷ 1 ∷ [])
         $ assigns-last !
         (bin ! (load ! (from ! (stop !)) (look ! 18 refl)) (lit ! tt)
-        (record { fits = one-more u (ltb-true (u .i) n yes′) }))
-        (from ! (stop !)) (store ! 18 refl (tt, record { fits = one-more u (ltb-true (u .i) n yes′) }))
+        (record { fits = one-more u more }))
+        (from ! (stop !)) (store ! 18 refl (tt, record { fits = one-more u more }))
         $ forget ! 6 refl $ forget ! 8 refl $ forget ! 10 refl $ forget ! 12 refl $ forget ! 14 refl $ forget ! 16 refl
-        $ again ! ≺ (I l₀ l₁ l₂ l₃ l₄ l₅ l₆ l₇ l₈ l₉ l₁₀) u (next u (ltb-true (u .i) n yes′) r w is gr)
-        (fewer u (ltb-true (u .i) n yes′))))))))
-        (λ no. rewrite ! 12 (λ (t : Bool). ‵ (fat fullShare tyBool l₇ 0 (vbool t))) no refl
+        $ again ! ≺ (I l₀ l₁ l₂ l₃ l₄ l₅ l₆ l₇ l₈ l₉ l₁₀) u (next u more r w is gr)
+        (fewer u more)))))))
+        (λ no end. rewrite ! 12 (λ (t : Bool). ‵ (fat fullShare tyBool l₇ 0 (vbool t))) no refl
         $ leaves-loop ! (load ! (from ! (stop !)) (look ! 12 refl)) $ forget ! 12 refl $ forget ! 14 refl
-        $ out ! (I l₀ l₁ l₂ l₃ l₄ l₅ l₆ l₇ l₈ l₉ l₁₀) (λ v. n ≤ v .i) u (ltb-false (u .i) n no)))
+        $ out ! (I l₀ l₁ l₂ l₃ l₄ l₅ l₆ l₇ l₈ l₉ l₁₀) (λ v. n ≤ v .i) u end))
         -- after the loop the borrow is closed at the last list
         (λ u end.
         assigns ! (of-opd ! (load ! (from ! (stop !)) (look ! 20 refl))) (from ! (stop !))

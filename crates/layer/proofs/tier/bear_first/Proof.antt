@@ -2,7 +2,7 @@
 -- places lie in a local, of which the first ones are lent to `bear_all` for a lifetime made for the call, and come
 -- back at the layers that its contract says.
 -- Assumes nothing.
-use Rattle.lending.proofs.Names.{_≡_, refl, sym, _∙_, ap, subst, [], _∷_, List, _++_, true, ℕ, _+_, _*_, _≤_, _<_, _^_}
+use Rattle.lending.proofs.Names.{_≡_, refl, sym, _∙_, ap, subst, [], _∷_, List, _++_, ℕ, _+_, _*_, _≤_, _<_, _^_}
 use Rattle.lending.proofs.Names.{min, arith, length, take, drop, length-take, length-append, take-append-drop, URA}
 use Rattle.lending.proofs.Names.{fullShare, named, mut, w64, tyRef, erased, Val, vint, vstruct, vcons, vnil, SProp}
 use Rattle.lending.proofs.Names.{ent, id⊢, Lft, Share, GName, ftrue, flft, fat, Fml, flent, Memory, Routine, Heap}
@@ -10,7 +10,7 @@ use Rattle.lending.proofs.Names.{WpFn, Tables, Calls, Loops, Atoms, FmC, fmOf, 
 use Rattle.lending.proofs.Names.{Given, Item, ‵, raw, _⊛_, ⋆, some, later, given, _$_, _∵_, !, qed, by, done, move}
 use Rattle.lending.proofs.Names.{keep, let-go, use1, use2, use3, split, join, pick, learn, rewrite, suffices, frame}
 use Rattle.lending.proofs.Names.{await, fsplit, fjoin, feqL, look, init, forget, stop, from, load, of-opd, addr}
-use Rattle.lending.proofs.Names.{and-then, no-more, assigns, land, again, returns, enter, alloc1, alloc0, params1}
+use Rattle.lending.proofs.Names.{and-then, no-more, assigns, land, returns, enter, alloc1, alloc0, params1}
 use Rattle.lending.proofs.Names.{pass1, pass0, free1, free0, agg, cells, Arr, lft-new, lft-end, owns, Is, shows}
 use Rattle.lending.proofs.Names.{Lawful, pointee, mem, uint-vals, uint-tells, u64, usize, ArrayOf, Array, array-lawful}
 use Rattle.lending.proofs.Names.{array-tells, RefT, MutSlice, ShrSlice, sliceTy, sliceVal, slice-vals, Room}
@@ -27,6 +27,7 @@ use Rattle.layer.specs.declared.record.Layer.{Layer}
 use Rattle.layer.specs.declared.record.Sums.{Sums}
 use Rattle.layer.specs.declared.tier.Tier.{Tier}
 use Rattle.layer.specs.declared.tier.TierBorne.{TierBorne}
+use Rattle.layer.proofs.Values.{sums-vals, sums-val}
 use Rattle.layer.proofs.record.Layer as L
 use Rattle.layer.proofs.record.Layer.Laws as L′
 use Rattle.layer.proofs.record.Sums as Z
@@ -62,7 +63,7 @@ abbrev Bears : {M : Type 1} (𝓤 : URA M) (H : Heap 𝓤) (A : Atoms 𝓤) (at-
     (exec : Routine → Fun 𝓤) → Contract 𝓤
 Bears 𝓤 H A at-mem exec = tripleOf 𝓤 H A all.signature (all.spec 𝓤 H A at-mem exec)
 
--- the machine values of eight layers and of sums
+-- the machine values of eight layers
 abbrev layers-vals : List Layer → List Val
 layers-vals = local.vals L.the-type L′.the-laws L′.the-plain 8
 
@@ -71,12 +72,6 @@ layers-val = local.val L.the-type L′.the-laws L′.the-plain 8
 
 abbrev IsArray : List Layer → Type 0
 IsArray l = Is (Array L.the-row 8) l (layers-vals l)
-
-abbrev sums-vals : Sums → List Val
-sums-vals = LL.vals Z.the-type Z′.the-laws
-
-abbrev sums-val : Sums → Val
-sums-val = LL.val Z.the-type Z′.the-laws
 
 -- the tier of n layers in eight places, and what is given back: it and sums
 abbrev tier : List Layer → ℕ → Tier
@@ -169,7 +164,7 @@ module _ {M : Type 1} (𝓤 : URA M) (H : Heap 𝓤) (A : Atoms 𝓤) (W : Given
 
   -- the places behind the layers lent, in the local b
   abbrev behind : ℕ → Fml
-  behind b = row L.the-row fullShare rest b (local.past L.the-type L′.the-laws L′.the-plain 8 𝓤 H A W b used)
+  behind b = row L.the-row fullShare rest b (local.past L.the-row used 0)
 
   -- the layers lent for the lifetime ν under the name γ, and what the call is made with
   abbrev lent : ℕ → GName → RefT (List Layer)
