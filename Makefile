@@ -16,6 +16,8 @@ shared = $(CC) -shared -Wl,--whole-archive $(built)/libcession.a -Wl,--no-whole-
 	-o $(built)/libcession.so
 
 .PHONY: all library program install uninstall
+# Two runs of rt on one target/ would get in each other's way.
+.NOTPARALLEL:
 
 all: library program
 
@@ -58,11 +60,11 @@ files := \
 own := libexec/cession/drawing libexec/cession $(python) lib/cession/python lib/cession \
 	share/cession/hurricane-sidney share/cession share/doc/cession
 
-# The Python module looks for the shared library beside itself first.
+# The Python module looks for the shared library beside itself first. A folder that stands keeps its mode.
 install: $(built)/libcession.a $(built)/libcession.so $(command)
 	@for item in $(files); do \
 		mode=$${item%%:*}; folder=$$DESTDIR$$PREFIX/$${item##*:}; file=$${item#*:}; file=$${file%:*}; \
-		install -d "$$folder" && install -m "$$mode" "$$file" "$$folder" || exit 1; \
+		{ [ -d "$$folder" ] || install -d "$$folder"; } && install -m "$$mode" "$$file" "$$folder" || exit 1; \
 	done; \
 	ln -sf ../../../libcession.so "$$DESTDIR$$PREFIX/$(python)/libcession.so"
 

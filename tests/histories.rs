@@ -76,14 +76,18 @@ fn usage() -> ! {
     exit(2);
 }
 
+fn number_from_1(word: &str) -> Option<usize> {
+    word.parse().ok().filter(|number| *number > 0)
+}
+
 /// The seed, the first history and the last, counted from 1, and whether they are to reach all that they should.
 fn arguments() -> Option<(u64, usize, usize, bool)> {
     let arguments: Vec<String> = env::args().skip(1).collect();
     let words: Vec<&str> = arguments.iter().map(String::as_str).collect();
     match words.as_slice() {
-        [seed, count] => Some((seed.parse().ok()?, 1, count.parse().ok()?, true)),
+        [seed, count] => Some((seed.parse().ok()?, 1, number_from_1(count)?, true)),
         [seed, "only", number] => {
-            let number = number.parse().ok().filter(|number| *number > 0)?;
+            let number = number_from_1(number)?;
             Some((seed.parse().ok()?, number, number, false))
         }
         _ => None,

@@ -2,6 +2,9 @@
 tried.
 """
 
+import array
+import ctypes
+import ctypes.util
 import os
 
 import cession
@@ -24,6 +27,35 @@ NO_CALL = [
     (ValueError, "risk has 9 places", Standing(risk=(0,) * 9)),
     (ValueError, "day", Standing(day=2**64)),
     (TypeError, "day", Standing(day=None)),
+    (TypeError, "day is a bool", Standing(day=True)),
+    (TypeError, "risk[0] is a Treaty", Programme(risk=[Treaty(1, 1)])),
+    (TypeError, "treaties[1] is a Terms", Programme(treaties=[Treaty(1, 1), SOUND])),
+]
+
+
+class Longer(bytes):
+    """Bytes that tell another length than they have."""
+
+    def __len__(self):
+        return 60000
+
+
+LENT = Standing().to_raw()
+NO_LENDING = [
+    (TypeError, "text is a str", lambda: cession.read("(quota")),
+    (TypeError, "text is a Longer", lambda: cession.read(Longer())),
+    (TypeError, "events is a bytearray", lambda: cession.run(Programme(), Standing(), bytearray())),
+    (TypeError, "events is a Longer", lambda: cession.run(Programme(), Standing(), Longer())),
+    (TypeError, "programme is a NoneType", lambda: cession.write(None)),
+    (TypeError, "programme is a Programme", lambda: cession.open_year(raw.Programme())),
+    (TypeError, "standing is a NoneType", lambda: cession.run(Programme(), None, b"")),
+    (TypeError, "standing is a NoneType", lambda: cession.run_into(Programme(), None, b"", bytearray(9))),
+    (TypeError, "standing is a Standing", lambda: cession.run_into(Programme(), Standing(), b"", bytearray(9))),
+    (ValueError, "overlap", lambda: cession.run_into(Programme(), LENT, b"", LENT)),
+    (TypeError, "not writable", lambda: cession.write_into(Programme(cat=[SOUND]), b"read only")),
+    (TypeError, "contiguous", lambda: cession.write_into(Programme(cat=[SOUND]), memoryview(bytearray(200))[::2])),
+    (ValueError, "count", lambda: Programme.from_raw(raw.Programme(cat=raw.Layers(count=9)))),
+    (ValueError, "unused", lambda: Programme.from_raw(raw.Programme(cat=raw.Layers((raw.Terms * 8)(raw.Terms(1)))))),
 ]
 
 
@@ -59,10 +91,19 @@ class Uncalled:
 library, raw.library = raw.library, Uncalled
 for kind, words, value in NO_CALL:
     check(kind, words, lambda: lend(value))
-check(TypeError, "text is a str", lambda: cession.read("(quota"))
-check(TypeError, "events is a bytearray", lambda: cession.run(Programme(), Standing(), bytearray()))
+for kind, words, call in NO_LENDING:
+    check(kind, words, call)
 check(AssertionError, "cession_write is called", lambda: lend(Programme(cat=[SOUND])))
 raw.library = library
+# Any memory that can be written to is a buffer, counted in bytes; a needed length is no line.
+TEXT = b"(cat (band 50 100) (deduct 0) (back 0 0 0) (placed 9000))\n"
+words = array.array("Q", [0] * 8)
+assert cession.write_into(Programme(cat=[SOUND]), words) == len(TEXT) and words.tobytes() == TEXT.ljust(64, b"\0")
+assert cession.refused(7, 5).line is None and cession.refused(10, 5).line == 5
+cession.run_into(Programme(), LENT, b"", (ctypes.c_char * 99)())
+library.cache_clear()
 os.environ["CESSION_LIBRARY"] = "/no such library"
 check(OSError, "CESSION_LIBRARY", lambda: lend(Programme(cat=[SOUND])))
-print(len(NO_CALL) + 2)
+os.environ["CESSION_LIBRARY"] = ctypes.util.find_library("c")
+check(OSError, "has no cession_read", lambda: lend(Programme(cat=[SOUND])))
+print(len(NO_CALL) + len(NO_LENDING))

@@ -29,11 +29,14 @@ def commands(block):
 
 
 def run(command, expected, folder):
-    done = subprocess.run(["bash", "-c", command], cwd=folder, stdout=subprocess.PIPE, stderr=subprocess.STDOUT,
-                          timeout=60, check=False)
+    """Runs a command; it ends with status 1 where it prints a refusal, and with 0 elsewhere."""
+    done = subprocess.run(["bash", "-o", "pipefail", "-c", command], cwd=folder, stdout=subprocess.PIPE,
+                          stderr=subprocess.STDOUT, timeout=60, check=False)
     printed = done.stdout.decode()
     if printed != expected:
         sys.exit("guide: %s\nprints\n%snot\n%s" % (command, printed, expected))
+    if done.returncode != (1 if expected.startswith("(refused") else 0):
+        sys.exit("guide: %s\nends with status %d" % (command, done.returncode))
 
 
 def main(document, folder, *words):

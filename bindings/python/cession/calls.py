@@ -18,17 +18,30 @@ def _accepted(refusal: int, number: int) -> int:
     return number
 
 
-def _text(name: str, text: bytes) -> bytes:
-    """The text, if it is bytes."""
-    if not isinstance(text, bytes):
-        raise TypeError(f"{name} is a {type(text).__name__} and must be bytes")
-    return text
+def _given(name: str, value, kind: type, wanted: str):
+    """The value, if it is of just this kind: bytes of a derived kind may tell a length that they do not have."""
+    if type(value) is not kind:
+        raise TypeError(f"{name} is a {type(value).__name__} and must be {wanted}")
+    return value
 
 
 def _room(buffer):
     """The bytes of a buffer, to be lent, and their number."""
     length = memoryview(buffer).nbytes
     return (ctypes.c_char * length).from_buffer(buffer), length
+
+
+def _lent(programme: Programme) -> raw.Programme:
+    """The programme as the library takes it."""
+    return _given("programme", programme, Programme, "a Programme")._lent
+
+
+def _apart(room, length: int, standing: raw.Standing):
+    """What a run writes to must not overlap."""
+    start, end = ctypes.addressof(room), ctypes.addressof(room) + length
+    lent = ctypes.addressof(standing)
+    if start < lent + ctypes.sizeof(standing) and lent < end:
+        raise ValueError("buffer and standing overlap")
 
 
 def _owned(first: int, call: Callable[[bytearray], int]) -> bytes:
@@ -54,7 +67,7 @@ def read(text: bytes) -> Programme:
     Traceback (most recent call last):
     cession.refusals.TableRefused: line 1 of the treaty table is none of the forms quota, surplus, risk and cat
     """
-    reading = raw.library().cession_read(_text("text", text), len(text))
+    reading = raw.library().cession_read(_given("text", text, bytes, "bytes"), len(text))
     _accepted(reading.refusal, reading.line)
     return Programme.from_raw(reading.programme)
 
@@ -82,7 +95,7 @@ def write_into(programme: Programme, buffer: bytearray) -> int:
     b'(surplus 2 (retain 10000) (lines 3) (event 0))\\n'
     """
     room, length = _room(buffer)
-    answer = raw.library().cession_write(programme._lent, room, length)
+    answer = raw.library().cession_write(_lent(programme), room, length)
     return _accepted(answer.refusal, answer.number)
 
 
@@ -92,7 +105,7 @@ def open_year(programme: Programme) -> Standing:
     >>> open_year(Programme()).day
     0
     """
-    opening = raw.library().cession_open(programme._lent)
+    opening = raw.library().cession_open(_lent(programme))
     _accepted(opening.refusal, opening.number)
     return Standing.from_raw(opening.standing)
 
@@ -110,7 +123,7 @@ def run(programme: Programme, standing: Standing, events: bytes) -> Tuple[bytes,
     Traceback (most recent call last):
     cession.refusals.EventsRefused: line 2 of the events has a day before that of the event before it
     """
-    lent = standing.to_raw()
+    lent = _given("standing", standing, Standing, "a Standing").to_raw()
     statement = _owned(EVENTS_BYTES, lambda buffer: run_into(programme, lent, events, buffer))
     return statement, Standing.from_raw(lent)
 
@@ -131,6 +144,9 @@ def run_into(programme: Programme, standing: raw.Standing, events: bytes, buffer
     >>> lent.day
     9
     """
+    _given("standing", standing, raw.Standing, "what Standing.to_raw gives")
+    _given("events", events, bytes, "bytes")
     room, length = _room(buffer)
-    answer = raw.library().cession_run(programme._lent, standing, _text("events", events), len(events), room, length)
+    _apart(room, length, standing)
+    answer = raw.library().cession_run(_lent(programme), standing, events, len(events), room, length)
     return _accepted(answer.refusal, answer.number)

@@ -16,7 +16,7 @@ SURPLUS = 2
 
 def _word(name: str, value: int) -> int:
     """The value, if 64 bits hold it: a larger one would be cut off on its way into the library."""
-    if not isinstance(value, int):
+    if not isinstance(value, int) or isinstance(value, bool):
         raise TypeError(f"{name} is a {type(value).__name__} and must be an int")
     if not 0 <= value < 2**64:
         raise ValueError(f"{name} is {value} and must be from 0 to 2**64 - 1")
@@ -28,13 +28,16 @@ def _filled(structure: type, name: str, record: object):
     return structure(*(_word(f"{name}.{field}", getattr(record, field)) for field, _ in structure._fields_))
 
 
-def _places(structure: type, name: str, records: tuple):
-    """The structure of places with the records in the first of them."""
+def _places(structure: type, kind: type, name: str, records: tuple):
+    """The structure of places with the records, all of this kind, in the first of them."""
     if len(records) > raw.PLACES:
         raise ValueError(f"{name} has {len(records)} places and may have {raw.PLACES}")
-    kind = structure().places._type_
-    filled = (_filled(kind, f"{name}[{place}]", record) for place, record in enumerate(records))
-    return structure((kind * raw.PLACES)(*filled), len(records))
+    for place, record in enumerate(records):
+        if not isinstance(record, kind):
+            raise TypeError(f"{name}[{place}] is a {type(record).__name__} and must be a {kind.__name__}")
+    numbers = structure().places._type_
+    filled = (_filled(numbers, f"{name}[{place}]", record) for place, record in enumerate(records))
+    return structure((numbers * raw.PLACES)(*filled), len(records))
 
 
 def _spent(name: str, amounts: tuple):
@@ -111,9 +114,9 @@ class Programme:
         ValueError: risk[0].attachment is 18446744073709551616 and must be from 0 to 2**64 - 1
         """
         return raw.Programme(
-            _places(raw.Treaties, "treaties", self.treaties),
-            _places(raw.Layers, "risk", self.risk),
-            _places(raw.Layers, "cat", self.cat),
+            _places(raw.Treaties, Treaty, "treaties", self.treaties),
+            _places(raw.Layers, Terms, "risk", self.risk),
+            _places(raw.Layers, Terms, "cat", self.cat),
         )
 
     # What the calls lend; it is made once, since neither the programme nor a call changes it.

@@ -111,6 +111,8 @@ def library() -> ctypes.CDLL:
         "cession_run": (Answer, [Programme, POINTER(Standing), c_char_p, c_size_t, c_void_p, c_size_t]),
     }
     for name, (result, arguments) in calls.items():
-        call = getattr(found, name)
+        call = getattr(found, name, None)
+        if call is None:
+            raise OSError(f"{path} is not the cession library: it has no {name}")
         call.restype, call.argtypes = result, arguments
     return found

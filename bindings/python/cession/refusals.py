@@ -148,7 +148,8 @@ _KINDS = {
 
 
 def refused(number: int, second: int) -> Refused:
-    """The exception for a refusal's two numbers, as the library and the program's `(refused N W)` have them. A number
+    """The exception for a refusal's two numbers, as the library and, from N 1 on, the program's `(refused N W)` have
+    them. A number
     that has no name here, from a library that is newer than this module, is a plain `Refused`.
 
     >>> refused(15, 0)

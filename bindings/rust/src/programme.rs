@@ -131,9 +131,13 @@ impl Programme {
         accepted(answer.refusal, answer.number)
     }
 
-    /// The treaties in use, in the table's order.
+    /// The treaties in use, in the table's order; all places of a broken programme with a count above 8.
     ///
     /// ```
+    /// let mut broken = cession::raw::Programme::default();
+    /// broken.treaties.count = 9;
+    /// assert_eq!(cession::Programme::from(broken).treaties().len(), 8);
+    ///
     /// let programme = cession::Programme::read(b"(surplus 3 (retain 10000) (lines 4) (event 0))\n")?;
     /// let [treaty] = programme.treaties() else { panic!() };
     /// assert_eq!((treaty.number, treaty.retention, treaty.lines), (3, 10_000, 4));

@@ -51,7 +51,7 @@ pub enum Refusal {
 }
 
 impl Refusal {
-    /// The refusal with these two numbers, as the library and the program's `(refused N W)` have them.
+    /// The refusal with these two numbers, as the library and, from N 1 on, the program's `(refused N W)` have them.
     ///
     /// ```
     /// use cession::Refusal;
