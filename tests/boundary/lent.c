@@ -79,8 +79,8 @@ static void try_open(const char *name, cession_programme programme) {
 static void try_run(const char *name, cession_programme programme, cession_standing standing, const text *lines,
                     size_t length) {
     set_out(standing);
-    cession_answer answer =
-        cession_run(programme, &standings[1], lines->bytes, lines->length, lent(length), length);
+    const uint8_t *bytes = lines->length == 0 ? NULL : lines->bytes;
+    cession_answer answer = cession_run(programme, &standings[1], bytes, lines->length, lent(length), length);
     print_left("run", name, answer, &statement);
 }
 
@@ -166,6 +166,7 @@ int main(int count, char **arguments) {
     cession_programme programme = cession_read(table.bytes, table.length).programme;
     cession_standing fresh = {{0}, {0}, 0};
     cession_standing begun = {{0}, {11, 12, 13, 14, 15}, 90};
+    static text none;
     try_write("buffer of length 0", programme, 0);
     try_write("buffer one byte short", programme, table.length - 1);
     try_write("buffer just long enough", programme, table.length);
@@ -173,6 +174,7 @@ int main(int count, char **arguments) {
     try_programmes(programme, begun);
     try_standings(programme, begun);
     try_events(programme, begun);
+    try_run("no events and no buffer", programme, fresh, &none, 0);
     try_run("buffer of length 0", programme, fresh, &events, 0);
     try_run("buffer one byte short", programme, fresh, &events, statement.length - 1);
     try_run("buffer just long enough", programme, fresh, &events, statement.length);

@@ -138,5 +138,6 @@ for case, size in buffers(TABLE):
 try_programmes()
 try_standings()
 try_events()
+try_run("no events and no buffer", cession.Standing(), b"", 0)
 for case, size in buffers(STATEMENT):
     try_run(case, cession.Standing(), EVENTS, size)

@@ -153,6 +153,7 @@ fn main() {
     lent.programmes();
     lent.standings();
     lent.texts();
+    lent.run("no events and no buffer", lent.programme(), raw::Standing::default(), &[], 0);
     for (name, length) in buffers(&lent.statement) {
         lent.run(name, lent.programme(), raw::Standing::default(), &lent.events, length);
     }
