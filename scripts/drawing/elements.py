@@ -15,6 +15,7 @@ text { font-family: "DejaVu Sans", Verdana, Arial, Helvetica, sans-serif; font-s
 .small { font-size: 11px; }
 .right { text-anchor: end; }
 .middle { text-anchor: middle; }
+.name { paint-order: stroke; stroke: #fff; stroke-width: 3; }
 .paper { fill: #fff; }
 .band { fill: #fff; stroke: #111; }
 .placed { fill: #9dbfe0; stroke: #111; }

@@ -8,6 +8,7 @@ HEADINGS = {"risk": "Risk layers", "cat": "Catastrophe layers"}
 AXIS = 146  # the x of the money axis: its labels have room for 10^15
 RIGHT = 484  # the x of the right side of the tower
 COLUMN = 14  # the width that an event takes beside it
+WIDE = 9  # the width of its column
 BLOCK = 4 * LINE + 8  # the height of a layer's label
 
 
@@ -21,7 +22,9 @@ def tower(tier, layers, marks):
     drawn = headed(HEADINGS[tier], [axis_note(axis)] + notes) + axis_drawn(axis)
     drawn += [element for layer in layers for element in layer_drawn(axis, layer, left)]
     drawn += [element for place, mark in enumerate(marks) for element in mark_drawn(axis, place, *mark)]
-    drawn += cuts_drawn(axis) + labels_drawn(axis, layers)
+    drawn += cuts_drawn(axis)
+    drawn += [name_drawn(axis, place, *mark) for place, mark in enumerate(marks)]  # over the zigzags
+    drawn += labels_drawn(axis, layers)
     return Panel(tier, drawn, axis.bottom + 44)
 
 
@@ -59,13 +62,21 @@ def cuts_drawn(axis):
     return drawn
 
 
+def column_top(axis, place, event):
+    """The upper left corner of an event's column."""
+    return AXIS + 6 + COLUMN * place, axis.stretch(event.subject).y(event.subject)
+
+
 def mark_drawn(axis, place, name, event):
-    x = AXIS + 6 + COLUMN * place
-    y = axis.stretch(event.subject).y(event.subject)
+    x, y = column_top(axis, place, event)
     return group("subject-" + name, [
         path("reach", [(x, y), (RIGHT, y)]),
-        rectangle("subject", x, y, COLUMN - 5, axis.bottom - y),
-        text(x + (COLUMN - 5) / 2, y - 4, name, "small middle")])
+        rectangle("subject", x, y, WIDE, axis.bottom - y)])
+
+
+def name_drawn(axis, place, name, event):
+    x, y = column_top(axis, place, event)
+    return text(x + WIDE / 2, y - 4, name, "small name middle")
 
 
 def layer_drawn(axis, layer, left):

@@ -42,6 +42,11 @@ def programmes():
                                    for tier in ("risk", "cat")], ["(event 366 %s)" % losses(40, range(9), BIG)] * 30
     yield "treaties", treaties()[:2], ["(event 5 (loss 1 70 61) (loss 2 70 33))", "(event 6)"]
     yield "one-risk", [layer("risk", 700, 1300)], ["(event 4 (loss 0 900 1500))"]
+    # Subjects at the ends of stretches: their letters stand at zigzags.
+    yield "ends", [layer("cat", 10**power, 9 * 10**power) for power in range(3, 11)], [
+        "(event %d (loss 0 1 %d))" % (power, 10**power) for power in range(3, 13)]
+    yield "unit", [layer("cat", 0, 1), layer("cat", 1, BIG - 1), layer("cat", BIG, BIG)], [
+        "(event 8 (loss 0 1 1))", "(event 9 (loss 0 1 %d))" % BIG]
     yield "one-cat", [layer("cat", 0, 1300)], ["(event 4 (loss 0 900 %d))" % BIG, "(event 5)"]
     yield "no-events", tower("cat", [40, 90], 5), []
     yield "no-contracts", [], ["(event 4 (loss 0 900 1500))"]
