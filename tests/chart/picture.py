@@ -43,24 +43,38 @@ class Picture:
 
     def rectangle(self, group, kind):
         """The one rectangle of this class in a group."""
-        found = [element for element in self.named[group].iter(SVG + "rect") if element.get("class") == kind]
+        found = self.rectangles(group, kind)
         assert len(found) == 1, "%s has %d rectangles %s" % (group, len(found), kind)
-        return Rectangle(*(float(found[0].get(name)) for name in ("x", "y", "width", "height")))
+        return found[0]
+
+    def rectangles(self, group, kind):
+        return [Rectangle(*(float(element.get(name)) for name in ("x", "y", "width", "height")))
+                for element in self.of_class(group, "rect", kind)]
+
+    def of_class(self, group, tag, kind):
+        return [element for element in self.named[group].iter(SVG + tag) if element.get("class") == kind]
+
+    def lines(self, group, kind):
+        """The points of each line of this class in a group."""
+        return [[tuple(map(float, point.split(","))) for point in element.get("points").split()]
+                for element in self.of_class(group, "polyline", kind)]
+
+    def places(self, group, kind):
+        """The texts of this class in a group with the points that they stand at."""
+        return [(element.text, float(element.get("x")), float(element.get("y")))
+                for element in self.of_class(group, "text", kind)]
 
     def texts(self, group):
         return [element.text for element in self.named[group].iter(SVG + "text")]
 
     def labels(self, tier):
         """The amounts beside the axis with the heights that they stand at."""
-        texts = [element for element in self.named[tier].iter(SVG + "text") if element.get("class") == "small right"]
-        return [(int(element.text.replace(",", "")), float(element.get("y")) - 4) for element in texts]
+        return [(int(words.replace(",", "")), y - 4) for words, _, y in self.places(tier, "small right")]
 
     def stretches(self, tier):
         """The axis from the bottom up."""
         found = []
-        for line in self.named[tier].iter(SVG + "polyline"):
-            if line.get("class") == "axis":
-                bottom, top = (float(point.split(",")[1]) for point in line.get("points").split())
-                within = [(amount, y) for amount, y in self.labels(tier) if top - 0.01 <= y <= bottom + 0.01]
-                found.append(Stretch(min(within)[0], max(within)[0], bottom, top))
+        for (_, bottom), (_, top) in self.lines(tier, "axis"):
+            within = [(amount, y) for amount, y in self.labels(tier) if top - 0.01 <= y <= bottom + 0.01]
+            found.append(Stretch(min(within)[0], max(within)[0], bottom, top))
         return found

@@ -1,5 +1,6 @@
-"""Holds three charts to figures worked out by hand: where bands begin and end, how wide they are shaded, how high the
-subject of each event stands, how an event's bar is parted. Arguments: the charts of hurricane-sidney, own and cut.
+"""Holds three charts to figures worked out by hand: where bands begin and end, how wide they are shaded, which label
+is joined to which band, how high the subject of each event stands, where zigzags are, how long a treaty's bar is, how
+an event's bar is parted. Arguments: the charts of hurricane-sidney, own and cut.
 """
 
 import sys
@@ -34,6 +35,29 @@ def band(picture, name, stretch, attachment, end, share):
     at(stretch, whole.y, end, name + "'s upper end")
     near(placed.width / whole.width, share, name + "'s shaded width", 0.0002)
     same((placed.x, placed.y, placed.height), (whole.x, whole.y, whole.height), name + "'s shaded place")
+    joined(picture, name, whole)
+
+
+def joined(picture, name, whole):
+    """One line leads from the middle of the band's right side to its label: four lines of text, the first in bold."""
+    tier, place = name.split("-")
+    first = [y for words, _, y in picture.places(tier, "strong") if words.startswith("%s %s: " % (tier, place))]
+    same(len(first), 1, "the count of %s's labels" % name)
+    leaders = [line for line in picture.lines(tier, "leader") if first[0] - 12 < line[-1][1] < first[0] + 48]
+    same(len(leaders), 1, "the count of lines to %s's label" % name)
+    near(leaders[0][0][0], whole.x + whole.width, "the left end of %s's line" % name)
+    near(leaders[0][0][1], (whole.y + whole.bottom) / 2, "the height of %s's line" % name)
+
+
+def zigzags(picture, tier):
+    """One between each two stretches, as wide as axis and bands, on a white line."""
+    stretches, found = picture.stretches(tier), picture.lines(tier, "cut")
+    same(len(found), len(stretches) - 1, "the count of zigzags")
+    same(picture.lines(tier, "gap"), found, "the white under the zigzags")
+    axis, whole = picture.lines(tier, "axis")[0][0][0], picture.rectangle(tier + "-1", "band")
+    for line, lower, upper in zip(found, stretches, stretches[1:]):
+        same(all(upper.bottom < y < lower.top for _, y in line), True, "that a zigzag is between its stretches")
+        same(line[0][0] < axis and line[-1][0] > whole.x + whole.width, True, "that a zigzag is wide enough")
 
 
 def linear(picture, tier, top):
@@ -41,13 +65,22 @@ def linear(picture, tier, top):
     stretches = picture.stretches(tier)
     same([(stretch.low, stretch.high) for stretch in stretches], [(0, top)], tier + "'s axis")
     same("Height: cents, linear from 0." in picture.texts(tier), True, tier + "'s note on its axis")
+    zigzags(picture, tier)
     for amount, y in picture.labels(tier):
         at(stretches[0], y, amount, "the label %d" % amount)
     return stretches[0]
 
 
 def subject(picture, name, stretch, amount):
-    at(stretch, picture.rectangle("subject-" + name, "subject").y, amount, "subject of " + name)
+    """A column from the axis's foot to the amount, a dotted line from there to the bands, and its letter above."""
+    column = picture.rectangle("subject-" + name, "subject")
+    at(stretch, column.y, amount, "subject of " + name)
+    near(column.bottom, picture.stretches("cat")[0].bottom, "the foot of %s's column" % name)
+    tower = picture.rectangle("cat-1", "band")
+    same(picture.lines("subject-" + name, "reach"),
+         [[(column.x, column.y), (tower.x + tower.width, column.y)]], "the dotted line of " + name)
+    letters = [(x, y) for words, x, y in picture.places("cat", "small name middle") if words == name]
+    same(letters, [(column.x + column.width / 2, column.y - 4)], "the letter of " + name)
 
 
 def row(picture, name, *words):
@@ -78,11 +111,14 @@ def own(picture):
     band(picture, "cat-2", cat, 4000000, 5000000, 0.75)
     subject(picture, "A", cat, 2310000)
     subject(picture, "B", cat, 4610000)
+    subject(picture, "C", cat, 200000)
     row(picture, "A", "30", "4,100,000", "800,000", "990,000", "2,310,000", "486,000", "1,824,000", "59,580")
     row(picture, "B", "200", "4,700,000", "0", "90,000", "4,610,000", "1,657,500", "2,952,500", "36,000")
+    row(picture, "C", "250", "500,000", "300,000", "0", "200,000", "0", "200,000", "0")
     whole = 1080  # the width of the largest gross, 4,700,000
     for name, parts in (("A", (("ceded", 800000), ("risk", 990000), ("cat", 486000), ("net", 1824000))),
-                        ("B", (("risk", 90000), ("cat", 1657500), ("net", 2952500)))):
+                        ("B", (("risk", 90000), ("cat", 1657500), ("net", 2952500))),
+                        ("C", (("ceded", 300000), ("net", 200000)))):
         x = 20
         for kind, amount in parts:
             found = picture.rectangle("event-" + name, "bar " + kind)
@@ -90,7 +126,15 @@ def own(picture):
             near(found.x, x, "the place of %s of %s" % (kind, name), 0.05)
             x += found.width
     same(picture.texts("treaties")[2:], ["treaty 2", "quota share, 25% ceded, no capacity, no event limit",
-                                         "ceded 800,000"], "the treaty")
+                                         "ceded 800,000", "treaty 5",
+                                         "surplus, retention 300,000, 2 lines, no event limit", "ceded 300,000"],
+         "the treaties")
+    bars = picture.rectangles("treaties", "bar ceded")
+    same([found.x for found in bars], [840, 840], "the left ends of the treaties' bars")
+    near(bars[0].width, 260, "the bar of treaty 2, which ceded most")
+    near(bars[1].width, 97.5, "the bar of treaty 5: 300,000 of 800,000 is three eighths")
+    for found, (_, _, y) in zip(bars, picture.places("treaties", "strong")):
+        same(y - 9 < found.y < found.bottom < y, True, "that a treaty's bar is in its row")
 
 
 def cut(picture):
@@ -104,6 +148,7 @@ def cut(picture):
     band(picture, "cat-3", upper, 7000000, 47000000, 0.4)
     heights = [picture.rectangle("cat-%d" % place, "band").height for place in (1, 2, 3)]
     same(min(heights) >= 7, True, "that all are seen")
+    zigzags(picture, "cat")
     subject(picture, "A", lower, 1250)
     subject(picture, "B", upper, 3400000)
     subject(picture, "C", upper, 37000000)
