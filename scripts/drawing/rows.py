@@ -2,7 +2,7 @@
 
 from drawing.elements import LINE, MARGIN, WIDTH, Panel, bar, group, headed, path, rectangle, text
 from drawing.texts import AMOUNTS, Event
-from drawing.wording import cents, counted
+from drawing.wording import cents
 
 SHOWN = 12  # events that are shown one by one
 
@@ -64,7 +64,7 @@ def events_drawn(events, marks, total):
     drawn.append(path("axis", [(MARGIN, y), (WIDTH - MARGIN, y)]))
     if others:
         y += 18
-        drawn += row_drawn(y, counted(len(others), "other"), "", amounts_of(added(others)))
+        drawn += row_drawn(y, "others", "", amounts_of(added(others)))
     drawn += row_drawn(y + 18, "total", "", amounts_of(total))
     return Panel("events", drawn, y + 40)
 

@@ -20,9 +20,9 @@ def tower(tier, limits, gap):
     return lines
 
 
-def losses(count, treaties, amount):
-    """Losses of falling amounts under these treaties in turn."""
-    return " ".join("(loss %d %d %d)" % (treaties[place % len(treaties)], amount, amount - place)
+def losses(count, treaties, amount, estimate=None):
+    """Losses of falling amounts under these treaties in turn, estimated at the largest if nothing else is said."""
+    return " ".join("(loss %d %d %d)" % (treaties[place % len(treaties)], estimate or amount, amount - place)
                     for place in range(count))
 
 
@@ -40,6 +40,9 @@ def programmes():
                    for place in range(8)], ["(event 1 %s)" % losses(30, (0,), BIG - 1)] * 5
     yield "largest", treaties() + [layer(tier, BIG, BIG, 10**15, "20 20000 1000000000000", 9999)
                                    for tier in ("risk", "cat")], ["(event 366 %s)" % losses(40, range(9), BIG)] * 30
+    # Sums of 17 digits in the row of the other events: gross, ceded and net.
+    yield "sums", ["(quota 1 (cede 5300) (capacity 0) (event 0))"], [
+        "(event %d %s)" % (min(day, 366), losses(6, (1,), BIG - day, 1)) for day in range(1, 380)]
     yield "treaties", treaties()[:2], ["(event 5 (loss 1 70 61) (loss 2 70 33))", "(event 6)"]
     yield "one-risk", [layer("risk", 700, 1300)], ["(event 4 (loss 0 900 1500))"]
     # Subjects at the ends of stretches: their letters stand at zigzags.

@@ -80,7 +80,9 @@ def subject(picture, name, stretch, amount):
     same(picture.lines("subject-" + name, "reach"),
          [[(column.x, column.y), (tower.x + tower.width, column.y)]], "the dotted line of " + name)
     letters = [(x, y) for words, x, y in picture.places("cat", "small name middle") if words == name]
-    same(letters, [(column.x + column.width / 2, column.y - 4)], "the letter of " + name)
+    same(len(letters), 1, "the count of letters " + name)
+    near(letters[0][0], column.x + column.width / 2, "the middle of the letter " + name)
+    near(letters[0][1], column.y - 4, "the foot of the letter " + name)
 
 
 def row(picture, name, *words):
