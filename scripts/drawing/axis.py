@@ -10,6 +10,7 @@ SMALLEST = 7  # no band is drawn less high than this
 LEAST = 36  # nor a stretch than this, so that it has room for two labels
 HIGHEST = 320  # the height of a tower that needs no more, and the most for a stretch of several bands
 CUT = 22  # the height between two stretches
+COST = 80  # a stretch more has to save this much height
 
 
 class Stretch(NamedTuple):
@@ -60,7 +61,10 @@ def height_of(parts):
 
 
 def cut_up(parts):
-    """The parts in stretches, no stretch of several parts too high; the least height, where each stretch costs 80."""
+    """The parts in stretches, none of several parts higher than HIGHEST.
+
+    Of all ways to cut them, the one whose heights, with COST added for each stretch, have the smallest sum.
+    """
     best = [(0, [])]
     for end in range(1, len(parts) + 1):
         choices = []
@@ -68,7 +72,7 @@ def cut_up(parts):
             height = height_of(parts[start:end])
             if height <= HIGHEST or end - start == 1:
                 weight, groups = best[start]
-                choices.append((weight + height + 80, groups + [(start, end)]))
+                choices.append((weight + height + COST, groups + [(start, end)]))
         best.append(min(choices))
     return [parts[start:end] for start, end in best[-1][1]]
 
