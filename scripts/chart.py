@@ -1,10 +1,12 @@
 #!/usr/bin/env python3
 """Draws a programme and a statement as SVG: chart.py TABLE < STATEMENT. It reads nothing else."""
 
+import os
 import sys
 from xml.sax.saxutils import escape
 
 sys.dont_write_bytecode = True  # nothing is left beside an installed script
+sys.path.insert(0, os.path.dirname(os.path.realpath(__file__)))  # PYTHONSAFEPATH leaves the script's folder out
 
 from drawing.elements import MARGIN, STYLE, WIDTH, Panel, group, headed, pixels, rectangle, text
 from drawing.rows import events_drawn, largest, treaties_drawn
