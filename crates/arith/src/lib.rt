@@ -18,11 +18,21 @@ pub fn settle(n: Division, d: u64) -> u64
     n.quotient
 }
 
-// a * b / d where the product may pass 64 bits.
+// a * b / d where the product may pass 64 bits. Where it does not, the machine divides a word by a word.
 pub fn mul_div(a: u64, b: u64, d: u64) -> u64
     requires { ⌜ Wide a b d ⌝ }
     ensures { λ r. ⌜ r ≡ rounded (a * b) d ⌝ }
 {
+    if words::high_word(a, b) == 0 {
+        let n = words::low_word(a, b);
+        return settle(
+            Division {
+                quotient: n / d,
+                rest: n % d,
+            },
+            d,
+        );
+    }
     settle(long_division::divide_product(a, b, d), d)
 }
 
