@@ -10,11 +10,12 @@ use Rattle.lists.specs.Sums.{sumOf, total}
 use Rattle.lists.proofs.Sums.{sum-map, sum-add, sum-zero}
 use Rattle.layer.specs.declared.record.Layer.{Layer}
 use Rattle.layer.specs.declared.record.Sums.{Sums}
-use Rattle.layer.specs.Layer.{broughtBy, usedOf, recoveredOf, layerAfter, sumsOf, recoveriesOf, chargesOf}
-use Rattle.layer.specs.Layer.{afterSubject, recoveryBy, chargeBy, borneBy, borneThrough}
+use Rattle.layer.specs.Layer.{broughtBy, capOf, cutAtCap, layerOf, layerAfter, recoveredSince, chargedSince, sumsOf}
+use Rattle.layer.specs.Layer.{recoveriesOf, chargesOf, afterSubject, recoveryBy, chargeBy}
+use Rattle.layer.specs.Layer.{borneSince, borneBy, borneThrough}
 use Rattle.layer.specs.Tier.{layersAfter, layersThrough, recoveriesThrough, chargesThrough}
 use Rattle.layer.specs.Ranges.{Sound}
-use Rattle.layer.proofs.Bounds.{placed-le, used-le}
+use Rattle.layer.proofs.Bounds.{recovered-le}
 use Rattle.layer.proofs.Premiums.{premium-le}
 use Rattle.layer.proofs.Records.{sound-after}
 use Rattle.layer.proofs.Year.{recoveries-telescope, charges-telescope}
@@ -52,20 +53,60 @@ borne-columns (x ∷ xs) s y =
           (add-assoc (s .premium .0) (chargeBy x y) (chargedEach xs (afterSubject x y)) i);
     })
 
+-- cut off at each amount or at the last, the record is the same
+after-at-once : (xs : List ℕ) (y : Layer) → y .spent .0 ≤ capOf (y .terms)
+    → afterEach xs y ≡ layerAfter (total (lossesOf xs y)) y
+after-at-once [] y h = ap (layerOf (y .terms)) (omega arith)
+after-at-once (x ∷ xs) y h =
+    after-at-once xs (afterSubject x y) (omega arith) ∙ ap (layerOf (y .terms)) (omega arith)
+
 module _ (xs : List ℕ) (y : Layer) (s : Sound y) where
   -- all the losses at once
   abbrev at-once : Layer
   at-once = layerAfter (total (lossesOf xs y)) y
 
+  -- the single recoveries and premiums add up to those of all the losses at once
+  pub borne-at-once : (t : Sums) → borneThrough xs t y ≡ borneSince y t (layerAfter (sumOf (broughtBy (y .terms)) xs) y)
+  borne-at-once t =
+      let recovered : recoveredEach xs y ≡ recoveredSince y at-once =
+      omega (arith, recoveries-telescope y (s .spent) (lossesOf xs y)) in
+      let charged : chargedEach xs y ≡ chargedSince y at-once =
+      omega (arith, charges-telescope y (s .spent) (lossesOf xs y) (s .terms .limit-low)) in
+      borne-columns xs t y
+      ∙ (λ i. record {
+        layer = after-at-once xs y (s .spent) i;
+        sums = sumsOf (t .recovered .0 + recovered i) (t .premium .0 + charged i);
+      })
+      ∙ ap (λ (n : ℕ). borneSince y t (layerAfter n y)) (sum-map (λ (n : ℕ). n) (broughtBy (y .terms)) xs)
+
+  -- where the amounts bring nothing, the record stays, and nothing is recovered or charged
+  module _ (nothing : sumOf (broughtBy (y .terms)) xs ≡ 0) where
+    none-lost : total (lossesOf xs y) ≡ 0
+    none-lost = sum-map (λ (n : ℕ). n) (broughtBy (y .terms)) xs ∙ nothing
+
+    spent-same : cutAtCap (y .terms) (y .spent .0 + total (lossesOf xs y)) ≡ y .spent .0
+    spent-same = omega (arith, none-lost, s .spent)
+
+    pub after-nothing : afterEach xs y ≡ y
+    after-nothing = after-at-once xs y (s .spent) ∙ ap (layerOf (y .terms)) spent-same
+
+    pub recovered-nothing : recoveredEach xs y ≡ 0
+    recovered-nothing =
+        let e = rw spent-same at (recoveries-telescope y (s .spent) (lossesOf xs y)) in
+        omega (arith, e)
+
+    pub charged-nothing : chargedEach xs y ≡ 0
+    charged-nothing =
+        let e = rw spent-same at (charges-telescope y (s .spent) (lossesOf xs y) (s .terms .limit-low)) in
+        omega (arith, e)
+
   -- no more than the limit, once and for each reinstatement
   pub recovered-each-le : recoveredEach xs y ≤ 21 * y .terms .limit
-  unfolding recoveredOf
   recovered-each-le =
       omega (
         arith,
         recoveries-telescope y (s .spent) (lossesOf xs y),
-        placed-le (y .terms) (usedOf (y .terms) (at-once .spent .0)) (s .terms .placed),
-        used-le at-once (sound-after (total (lossesOf xs y)) y s),
+        recovered-le at-once (sound-after (total (lossesOf xs y)) y s),
       )
 
   -- no more than the premium of every reinstatement

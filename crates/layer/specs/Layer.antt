@@ -86,6 +86,13 @@ chargeOf loss y = chargedSince y (layerAfter loss y)
 abbrev pub sumsOf : ℕ → ℕ → Sums
 sumsOf recovered premium = record { recovered = record { 0 = recovered }; premium = record { 0 = premium } }
 
+-- a record, and the sums with its recovery and its premium since a record before it
+abbrev pub borneSince : Layer → Sums → Layer → Borne
+borneSince before s y = record {
+  layer = y;
+  sums = sumsOf (s .recovered .0 + recoveredSince before y) (s .premium .0 + chargedSince before y);
+}
+
 -- the record after a loss, and the sums with its recovery and its premium
 abbrev pub borneOf : ℕ → Sums → Layer → Borne
 borneOf loss s y = record {

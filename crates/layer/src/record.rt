@@ -2,7 +2,9 @@
 ghost use mathlib.Core.Path.{_≡_};
 ghost use Prim.Native.Nat.{_≤_};
 ghost use Rattle.layer.specs.Layer.{deductibleLeftOf, coverLeftOf, usedOf, reinstatedOf, recoveredOf, premiumOf};
-ghost use Rattle.layer.specs.Layer.{layerAfter, recoveredSince, chargedSince, borneOf, borneBy, borneThrough};
+ghost use Rattle.lists.specs.Sums.{sumOf};
+ghost use Rattle.layer.specs.Layer.{broughtBy, layerAfter, recoveredSince, chargedSince};
+ghost use Rattle.layer.specs.Layer.{borneSince, borneBy, borneThrough};
 ghost use Rattle.layer.specs.Ranges.{Sound, Room, Ample};
 use crate::amount::Placed;
 use crate::amount::Whole;
@@ -105,28 +107,32 @@ impl Layer {
         self.premium().less(before.premium())
     }
 
-    // The record and the sums after the loss that a subject amount brings; no loss leaves both as they are.
-    pub fn bear(self, subject: u64, sums: Sums) -> Borne
-        requires { ⌜ Sound self × Room sums ⌝ }
-        ensures { λ r. ⌜ r ≡ borneBy subject sums self ⌝ }
+    // The record after all the losses that amounts bring: they are added, as far as the cap.
+    fn take_each(self, subjects: &[u64]) -> Layer
+        requires { ⌜ Sound self ⌝ }
+        ensures { λ r. ⌜ r ≡ layerAfter (sumOf (broughtBy (self .terms)) (now (subjects .entry))) self ⌝ }
     {
-        let loss = self.terms.brings(subject);
-        if loss.cents() == 0 {
-            return Borne { layer: self, sums };
+        let terms = self.terms;
+        let cap = terms.cap();
+        let mut spent = self.spent;
+        for i in 0..subjects.len() {
+            spent = spent.plus(terms.brings(subjects[i]));
+            if cap.cents() <= spent.cents() {
+                return Layer { terms, spent: cap };
+            }
         }
-        self.bear_loss(loss, sums)
+        Layer { terms, spent }
     }
 
-    // The same where there is a loss.
-    fn bear_loss(self, loss: Whole, sums: Sums) -> Borne
-        requires { ⌜ Sound self × Room sums × (loss .0 ≤ self .terms .limit) ⌝ }
-        ensures { λ r. ⌜ r ≡ borneOf (loss .0) sums self ⌝ }
+    // The record, and the sums with what it has come to recover and to charge since an earlier record of the year.
+    fn borne_since(self, before: Layer, sums: Sums) -> Borne
+        requires { ⌜ Sound self × Sound before × Room sums ⌝ }
+        ensures { λ r. ⌜ r ≡ borneSince before sums self ⌝ }
     {
-        let after = self.take(loss);
-        let recovery = after.recovery_since(self);
-        let premium = after.premium_since(self);
+        let recovery = self.recovery_since(before);
+        let premium = self.premium_since(before);
         Borne {
-            layer: after,
+            layer: self,
             sums: Sums {
                 recovered: sums.recovered.plus(recovery),
                 premium: sums.premium.plus(premium),
@@ -134,18 +140,29 @@ impl Layer {
         }
     }
 
-    // The record and the sums after the losses that amounts bring, each amount in turn the subject.
+    // The record and the sums after the loss that a subject amount brings; where nothing more is spent, both stay as
+    // they are.
+    pub fn bear(self, subject: u64, sums: Sums) -> Borne
+        requires { ⌜ Sound self × Room sums ⌝ }
+        ensures { λ r. ⌜ r ≡ borneBy subject sums self ⌝ }
+    {
+        let after = self.take(self.terms.brings(subject));
+        if after.spent.cents() == self.spent.cents() {
+            return Borne { layer: self, sums };
+        }
+        after.borne_since(self, sums)
+    }
+
+    // The same after the losses that amounts bring, each amount in turn the subject. The single recoveries and
+    // premiums add up to those of all losses at once.
     pub fn bear_each(self, subjects: &[u64], sums: Sums) -> Borne
         requires { ⌜ Sound self × Ample sums ⌝ }
         ensures { λ r. ⌜ r ≡ borneThrough (now (subjects .entry)) sums self ⌝ }
     {
-        let mut layer = self;
-        let mut sums = sums;
-        for i in 0..subjects.len() {
-            let borne = layer.bear(subjects[i], sums);
-            layer = borne.layer;
-            sums = borne.sums;
+        let after = self.take_each(subjects);
+        if after.spent.cents() == self.spent.cents() {
+            return Borne { layer: self, sums };
         }
-        Borne { layer, sums }
+        after.borne_since(self, sums)
     }
 }

@@ -1,8 +1,10 @@
 // The layers of one tier: each looks at the same subject amounts, and none sees another's remainder. They are lent as
 // a list of records, each brought up to date in its place.
 ghost use mathlib.Core.Path.{_≡_};
-ghost use Prim.Native.Nat.{_≤_};
+ghost use mathlib.Core.Bool.{false};
+ghost use Prim.Native.Nat.{ℕ, _≤_};
 ghost use lib.ListN.{take};
+ghost use Rattle.lists.specs.Each.{Each};
 ghost use Rattle.layer.specs.Tier.{layersThrough, sumsThrough, tierAfter, tierThrough};
 ghost use Rattle.layer.specs.Ranges.{SoundLayers, AmpleForTier, SoundTier};
 use crate::amount::Placed;
@@ -55,17 +57,41 @@ fn bear_first(layers: [Layer; 8], count: usize, subjects: &[u64], sums: Sums) ->
     }
 }
 
+// Whether one of some amounts is above an attachment.
+fn reach(subjects: &[u64], attachment: u64) -> bool
+    ensures { λ r. ⌜ (r ≡ false → Each (λ (x : ℕ). x ≤ attachment) (now (subjects .entry))) ⌝ }
+{
+    for i in 0..subjects.len() {
+        if attachment < subjects[i] {
+            return true;
+        }
+    }
+    false
+}
+
 impl Tier {
-    // The tier after amounts, each in turn the subject of every layer.
+    // The tier after amounts, each in turn the subject of every layer. A tier that none of them reaches stays as it is.
     pub fn bear(self, subjects: &[u64]) -> TierBorne
         requires { ⌜ SoundTier self ⌝ }
         ensures { λ r. ⌜ r ≡ tierThrough (now (subjects .entry)) self ⌝ }
     {
-        let layers = self.layers;
         let none = Sums {
             recovered: Placed::none(),
             premium: Placed::none(),
         };
-        bear_first(layers, self.count, subjects, none)
+        if self.count == 0 {
+            return TierBorne {
+                tier: self,
+                sums: none,
+            };
+        }
+        if reach(subjects, self.layers[0].terms.attachment) {
+            let layers = self.layers;
+            return bear_first(layers, self.count, subjects, none);
+        }
+        TierBorne {
+            tier: self,
+            sums: none,
+        }
     }
 }
