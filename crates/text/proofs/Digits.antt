@@ -2,7 +2,7 @@
 -- Assumes nothing.
 use mathlib.Core.List.{List, [], _∷_}
 use mathlib.Core.Option.{Option, none, some}
-use mathlib.Core.Path.{_≡_, refl, ap, _∙_}
+use mathlib.Core.Path.{_≡_, refl, sym, ap, _∙_}
 use Prim.Native.Nat.{ℕ, _+_, _-_, _*_, _/_, _%_, _^_, _≤_, _<_}
 use native.Mathlib.Numerals.{add-one}
 use native.Mathlib.Omega.{arith}
@@ -10,7 +10,8 @@ use borrow.Author.Tests.{lt-ltb, le-ltb, le-leb, lt-leb}
 use lib.ListN.{length, drop, getD, length-drop, drop-of-length-le}
 use lib.Seq.{drop-cons}
 use Rattle.lists.proofs.Cases.{by-lt}
-use Rattle.text.specs.Number.{printed, digitOf, readOn, number, numberAt}
+use Rattle.text.specs.Number.{printed, digitOf, readOn, number, numberOf, numberAt, numberOn}
+use Rattle.text.specs.declared.number.Number.{Number}
 use Rattle.text.specs.declared.number.Number.the-variants.{Value, Nothing}
 use Rattle.text.proofs.Printing.{printed-one, printed-more, by-digits}
 
@@ -98,6 +99,25 @@ module _ (s : List ℕ) (at : ℕ) where
   pub missing : number (drop at s) ≡ none → Nothing ≡ numberAt s at
   unfolding numberAt
   missing e = rw e
+
+-- the same after first digits v
+module _ (s : List ℕ) (v at : ℕ) where
+  pub found-on : (w i : ℕ) → i ≤ length s → readOn v (drop at s) ≡ some (w, drop i s) → Value w i ≡ numberOn s v at
+  unfolding numberOn
+  found-on w i h e = rw (e, length-drop) (ap (Value w) (omega arith))
+
+  pub missing-on : readOn v (drop at s) ≡ none → Nothing ≡ numberOn s v at
+  unfolding numberOn
+  missing-on e = rw e
+
+  -- and the other way round: what is read after them is what is read in all
+  pub on-from : (a : ℕ) (r : Number) → number (drop a s) ≡ readOn v (drop at s) → r ≡ numberOn s v at → r ≡ numberAt s a
+  unfolding numberOn numberAt
+  on-from a r e q = q ∙ ap (numberOf (length s)) (sym e)
+
+  pub on-on : (w a : ℕ) (r : Number) → readOn w (drop a s) ≡ readOn v (drop at s) → r ≡ numberOn s v at → r ≡ numberOn s w a
+  unfolding numberOn
+  on-on w a r e q = q ∙ ap (numberOf (length s)) (sym e)
 
 -- a digit before the text s is read
 number-cons : (d : ℕ) (s : List ℕ) → d < 10 → number ((48 + d) ∷ s) ≡ readOn d s

@@ -1,16 +1,17 @@
 -- How long a printed number and a printed template are at least and at most.
 -- Assumes nothing.
-use mathlib.Core.Path.{_≡_}
+use mathlib.Core.Path.{_≡_, refl, _∙_}
 use mathlib.Core.List.{List, [], _∷_}
 use Prim.Native.Nat.{ℕ, zero, suc, _+_, _*_, _/_, _%_, _^_, _≤_, _<_}
-use native.Mathlib.Nat.{pow-suc, div-lt-iff-lt-mul}
+use native.Mathlib.Nat.{pow-suc, le-div-iff-mul-le, div-lt-iff-lt-mul}
+use native.Mathlib.Numerals.{add-one}
 use native.Mathlib.Omega.{arith}
 use lib.Dec.{lit<}
-use lib.ListN.{length, drop, getD, length-append}
+use lib.ListN.{length, drop, getD, length-append, drop-of-length-le}
+use lib.Seq.{drop-cons}
 use Rattle.lists.specs.Each.{Each}
 use Rattle.lists.proofs.Cases.{by-lt, by-test}
-use Rattle.text.specs.Buffer.{Put}
-use Rattle.text.specs.Number.{printed, digits}
+use Rattle.text.specs.Number.{printed, digits, digitsIn}
 use Rattle.text.specs.Template.{capital, holes, filled}
 use Rattle.text.proofs.Digits.{Readable}
 use Rattle.text.proofs.Printing.{by-digits, printed-one, printed-more, printed-append}
@@ -38,10 +39,10 @@ printed-length : (n : ℕ) (s : List ℕ) → length (printed n s) ≡ length (d
 printed-length n s = rw (printed-append n [] s) (length-append (digits n) s)
 
 -- one digit, and one digit more
-length-one : (n : ℕ) → n < 10 → length (digits n) ≡ 1
+pub length-one : (n : ℕ) → n < 10 → length (digits n) ≡ 1
 length-one n h = rw (printed-one n [] h)
 
-length-more : (n : ℕ) → 10 ≤ n → length (digits n) ≡ length (digits (n / 10)) + 1
+pub length-more : (n : ℕ) → 10 ≤ n → length (digits n) ≡ length (digits (n / 10)) + 1
 length-more n h = rw (printed-more n [] h) (printed-length (n / 10) ((48 + n % 10) ∷ []))
 
 -- a number below 10 ^ (k + 1) has at most k + 1 digits
@@ -53,10 +54,21 @@ digits-length (suc k) n h =
     (λ l. omega (arith, length-one n l))
     (λ l. omega (arith, length-more n l, digits-length k (n / 10) tenth))
 
--- a number of a machine word has at most twenty digits
-pub number-put : {d d′ : List ℕ} {at next : ℕ} (n : ℕ) → n < 2 ^ 64 → Put d at (digits n) d′ next
-    → Put d at (digits n) d′ next × (next ≤ at + 20)
-number-put n h p = (p, omega (arith, p .place, digits-length 19 n (omega arith)))
+-- one of 10 ^ k or more has more than k
+digits-least : (k n : ℕ) → 10 ^ k ≤ n → k < length (digits n)
+digits-least zero n h = printed-long n []
+digits-least (suc k) n h =
+    let tenth : 10 ^ k ≤ n / 10 = le-div-iff-mul-le (lit< tt) .1 (rw pow-suc at h) in
+    let ten : 10 ≤ n = omega (arith, pow-suc 10 k, one-least k) in
+    omega (arith, length-more n ten, digits-least k (n / 10) tenth)
+  where
+    one-least : (k : ℕ) → 1 ≤ 10 ^ k
+    one-least zero = omega arith
+    one-least (suc k) = omega (arith, pow-suc 10 k, one-least k)
+
+-- one between has k + 1, which are at most twenty in a machine word
+pub digits-many : (k n : ℕ) → k < 20 → 10 ^ k ≤ n → n < 10 ^ suc k → (suc k ≡ length (digits n)) × (suc k ≤ 20)
+digits-many k n h l g = (omega (arith, digits-least k n l, digits-length k n g), h)
 
 -- of numbers with at most sixteen digits, one that is missing is printed as 0
 first-sixteen : (ns : List ℕ) → Each Readable ns → length (digits (getD ns 0 0)) ≤ 16
@@ -77,3 +89,46 @@ filled-length (b ∷ t) ns z =
     by-test (capital b)
     (λ e. simp (filled, ← e) (omega (arith, more, first-sixteen ns z, rest, holes-number b t e)))
     (λ e. simp (filled, ← e) (omega (arith, filled-length t ns z, holes-byte b t e)))
+
+no-holes : holes [] ≡ 0
+unfolding holes
+no-holes = refl
+
+-- how long a template is that is printed with as many numbers as it has
+pub filled-size : (t ns : List ℕ) → length ns ≡ holes t → length (filled t ns []) + length ns ≡ length t + digitsIn ns
+unfolding filled
+filled-size [] [] h = refl
+filled-size [] (n ∷ ns) h = absurd (omega (arith, no-holes))
+filled-size (b ∷ t) [] h =
+    by-test (capital b)
+    (λ e. absurd (omega (arith, holes-number b t e)))
+    (λ e. simp (filled, ← e) (omega (arith, filled-size t [] (h ∙ holes-byte b t e))))
+filled-size (b ∷ t) (n ∷ ns) h =
+    let more = printed-length n (filled t ns []) in
+    by-test (capital b)
+    (λ e. simp (filled, ← e) (omega (arith, more, filled-size t ns (omega (arith, holes-number b t e)))))
+    (λ e. simp (filled, ← e) (omega (arith, filled-size t (n ∷ ns) (h ∙ holes-byte b t e))))
+
+-- The digits of the numbers ns are counted: the first i have `sum`.
+pub record Counting (ns : List ℕ) (sum i : ℕ) : Type 0 where
+  pub within : i ≤ length ns
+  pub short : sum ≤ 20 * i
+  pub left : sum + digitsIn (drop i ns) ≡ digitsIn ns
+
+pub none-counted : (ns : List ℕ) → Counting ns 0 0
+none-counted ns = record { within = omega arith; short = omega arith; left = omega arith }
+
+module _ (ns : List ℕ) (sum i : ℕ) (g : Counting ns sum i) where
+  pub one-counted : i < length ns → (r : ℕ) → r ≡ length (digits (getD ns i 0)) → r ≤ 20 → Counting ns (sum + r) (i + 1)
+  one-counted h r e k = record {
+    within = omega arith;
+    short = omega (arith, g .short);
+    left =
+        let next : digitsIn (drop i ns) ≡ r + digitsIn (drop (i + 1) ns) = rw (drop-cons ns i 0 h, add-one i, e) in
+        omega (arith, g .left, next);
+  }
+
+  pub all-counted : length ns ≤ i → sum ≡ digitsIn ns
+  all-counted h =
+      let none : digitsIn (drop i ns) ≡ 0 = rw (drop-of-length-le ns h) in
+      omega (arith, g .left, none)

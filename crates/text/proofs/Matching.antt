@@ -33,7 +33,7 @@ rest-at s j w y h e = sym (ap (λ (k : ℕ). drop k s) place ∙ sym (drop-drop 
     place = omega (arith, length-drop j s, ap length e, length-append w y)
 
 -- the answer of `number::read`, taken apart
-number-found : (s : List ℕ) (j v next : ℕ) → j ≤ length s → Value v next ≡ numberAt s j
+pub number-found : (s : List ℕ) (j v next : ℕ) → j ≤ length s → Value v next ≡ numberAt s j
     → (number (drop j s) ≡ some (v, drop next s)) × (next ≤ length s)
 unfolding numberAt
 number-found s j v next h = by-read (number (drop j s)) refl
@@ -49,7 +49,7 @@ number-found s j v next h = by-read (number (drop j s)) refl
         let text = number-read _ _ _ e .0 ∙ printed-append (p .0) [] (p .1) in
         (e ∙ rw (same, place, ← rest-at s j (digits (p .0)) (p .1) h text), omega arith)
 
-number-missing : (s : List ℕ) (j : ℕ) → Nothing ≡ numberAt s j → number (drop j s) ≡ none
+pub number-missing : (s : List ℕ) (j : ℕ) → Nothing ≡ numberAt s j → number (drop j s) ≡ none
 unfolding numberAt
 number-missing s j = by-read (number (drop j s)) refl
   where

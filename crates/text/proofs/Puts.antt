@@ -2,16 +2,14 @@
 -- Assumes nothing.
 use mathlib.Core.Path.{_≡_, refl, sym, ap, _∙_}
 use mathlib.Core.List.{List, [], _∷_, _++_}
-use Prim.Native.Nat.{ℕ, suc, _+_, _/_, _%_, _≤_, _<_}
+use Prim.Native.Nat.{ℕ, suc, _+_, _≤_}
 use native.Mathlib.Nat.{add-suc, add-zero, suc-add, zero-add}
 use native.Mathlib.Omega.{arith}
 use lib.ListN.{length, drop, set, length-append}
 use lib.Seq.{sets, length-sets, sets-eq}
 use Rattle.text.specs.Buffer.{Put}
-use Rattle.text.specs.Number.{digits, twoDigits}
-use Rattle.text.proofs.Printing.{printed-one, printed-more, printed-append}
 
-sets-append : (d : List ℕ) (at : ℕ) (v w : List ℕ) → sets d at (v ++ w) ≡ sets (sets d at v) (at + length v) w
+pub sets-append : (d : List ℕ) (at : ℕ) (v w : List ℕ) → sets d at (v ++ w) ≡ sets (sets d at v) (at + length v) w
 sets-append d at [] w = rw add-zero
 sets-append d at (b ∷ v) w = sets-append (set d at b) (suc at) v w ∙ rw (add-suc, suc-add)
 
@@ -26,37 +24,6 @@ put-append {d} {at = at} {v = v} {w = w} p q = record {
   place = omega (arith, p .place, q .place, length-append v w);
   bytes = q .bytes ∙ rw (p .bytes, p .place) (sym (sets-append d at v w));
 }
-
--- the two digits of a number below 100
-pub two-put : {d d′ d″ : List ℕ} {at next end : ℕ} (n : ℕ) → Put d at ((48 + n / 10) ∷ []) d′ next
-    → Put d′ next ((48 + n % 10) ∷ []) d″ end → Put d at (twoDigits n) d″ end
-two-put n p q = put-append p q
-
--- a number of one digit, one of two, and one of more: all but its last two digits, then those
-pub digit-put : {d d′ : List ℕ} {at next : ℕ} (n : ℕ) → n < 10 → Put d at ((48 + n) ∷ []) d′ next
-    → Put d at (digits n) d′ next
-digit-put n h p = rw (printed-one n [] h) p
-
-last-two : (n : ℕ) (s : List ℕ) → 10 ≤ n → (48 + n / 10 % 10) ∷ (48 + n % 10) ∷ s ≡ twoDigits (n % 100) ++ s
-last-two n s h =
-    let tens : n / 10 % 10 ≡ n % 100 / 10 = omega arith in
-    let ones : n % 10 ≡ n % 100 % 10 = omega arith in
-    rw (tens, ones)
-
-pub pair-put : {d d′ : List ℕ} {at next : ℕ} (n : ℕ) → 10 ≤ n → n < 100 → Put d at (twoDigits n) d′ next
-    → Put d at (digits n) d′ next
-pair-put n l h p = rw (printed-more n [] l, printed-one (n / 10) ((48 + n % 10) ∷ []) (omega arith)) p
-
-digits-more : (n : ℕ) → 100 ≤ n → digits n ≡ digits (n / 100) ++ twoDigits (n % 100)
-digits-more n h =
-    let hundred : n / 10 / 10 ≡ n / 100 = omega arith in
-    printed-more n [] (omega arith)
-    ∙ printed-more (n / 10) ((48 + n % 10) ∷ []) (omega arith)
-    ∙ rw (hundred, last-two n [] (omega arith)) (printed-append (n / 100) [] (twoDigits (n % 100)))
-
-pub digits-put : {d d′ d″ : List ℕ} {at next end : ℕ} (n : ℕ) → 100 ≤ n → Put d at (digits (n / 100)) d′ next
-    → Put d′ next (twoDigits (n % 100)) d″ end → Put d at (digits n) d″ end
-digits-put n h p q = rw (digits-more n h) (put-append p q)
 
 -- a text that fits is at the front of the buffer, and what stood behind it stands there still
 pub put-whole : {d d′ : List ℕ} {next : ℕ} {w : List ℕ} → length w ≤ length d → Put d 0 w d′ next

@@ -3,3 +3,5 @@ pub mod Buffer
 pub mod Number
 pub mod Template
 pub mod Lines
+pub mod Word
+pub mod Begin

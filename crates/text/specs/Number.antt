@@ -7,6 +7,7 @@ use mathlib.Core.Option.{Option, none, some}
 use Prim.Native.Nat.{ℕ, zero, suc, _+_, _-_, _*_, _/_, _%_, _^_}
 use lib.Dec.{leb, ltb}
 use lib.ListN.{length, drop}
+use Rattle.lists.specs.Sums.{sumOf}
 use Rattle.text.specs.declared.number.Number.{Number}
 use Rattle.text.specs.declared.number.Number.the-variants.{Value, Nothing}
 
@@ -21,6 +22,10 @@ printed n s = printedBy n n s
 
 abbrev pub digits : ℕ → List ℕ
 digits n = printed n []
+
+-- how many digits numbers have in all
+abbrev pub digitsIn : List ℕ → ℕ
+digitsIn ns = sumOf (λ (n : ℕ). length (digits n)) ns
 
 -- the two digits of a number below 100, a leading zero among them
 abbrev pub twoDigits : ℕ → List ℕ
@@ -53,3 +58,7 @@ numberOf n (some p) = Value (p .0) (n - length (p .1))
 -- the number at a place of a text
 unfoldable pub numberAt : List ℕ → ℕ → Number
 numberAt s at = numberOf (length s) (number (drop at s))
+
+-- the number whose first digits are v, and whose others stand from a place of a text on
+unfoldable pub numberOn : List ℕ → ℕ → ℕ → Number
+numberOn s v at = numberOf (length s) (readOn v (drop at s))

@@ -3,3 +3,4 @@ pub mod buffer;
 pub mod line;
 pub mod number;
 pub mod template;
+pub mod word;

@@ -2,6 +2,7 @@
 ghost use mathlib.Core.Path.{_≡_};
 ghost use Prim.Native.Nat.{_+_, _≤_};
 ghost use lib.ListN.{length};
+ghost use Rattle.text.specs.Begin.{Stands};
 ghost use Rattle.text.specs.Lines.{placeOf, lineEnd};
 
 // Where a byte stands next, from a place on, or the end of the text.
@@ -25,4 +26,15 @@ pub fn end(s: &[u8], at: usize) -> usize
     ensures { λ r. ⌜ (r ≡ lineEnd (now (s .entry)) at) × (at ≤ r) × (r ≤ length (now (s .entry))) ⌝ }
 {
     place_of(s, at, b'\n')
+}
+
+// Whether a byte stands at a place.
+pub fn stands(s: &[u8], at: usize, byte: u8) -> bool
+    ensures { λ r. ⌜ Stands (now (s .entry)) at byte r ⌝ }
+{
+    if at < s.len() {
+        let found = s[at];
+        return byte == found;
+    }
+    false
 }

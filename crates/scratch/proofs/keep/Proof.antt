@@ -3,18 +3,18 @@
 use Prim.Native.Nat.{_-_}
 use lib.ListN.{length}
 use borrow.Author.Needs.{needs}
-use Rattle.scratch.proofs.Keeping as law
+use Rattle.text.proofs.Copies as law
 use Rattle.scratch.proofs.keep.Statement.{statement}
 use Rattle.scratch.proofs.keep.Tie as tie
 
 abbrev Inv-loop : tie.InvT-loop
-Inv-loop kept₀ at numbers next₀ i₀ kept next i = law.Keeping numbers kept₀ at kept next i
+Inv-loop kept₀ at numbers next₀ i₀ kept next i = law.Copying numbers kept₀ at kept next i
 
 abbrev μ-loop : tie.MeasureT-loop
 μ-loop kept₀ at numbers next₀ i₀ kept next i = length numbers - i
 
 loop-holds : tie.Need-loop-holds Inv-loop μ-loop
-loop-holds c = search law.none-kept
+loop-holds c = search law.none-copied
 
 mul-number : tie.Need-mul-number Inv-loop μ-loop
 mul-number c = search needs
@@ -32,13 +32,13 @@ loop-less : tie.Need-loop-less Inv-loop μ-loop
 loop-less c = search needs
 
 loop-again : tie.Need-loop-again Inv-loop μ-loop
-loop-again c = search law.one-kept
+loop-again c = search law.one-copied
 
 same-length : tie.Need-same-length Inv-loop μ-loop
-same-length c = search law.kept-length
+same-length c = search law.copied-length
 
 returns : tie.Need-returns Inv-loop μ-loop
-returns c = search law.all-kept
+returns c = search law.all-copied
 
 pub keep-spec : {M : Type 1} → statement M
 keep-spec =

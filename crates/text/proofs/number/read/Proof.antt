@@ -1,92 +1,81 @@
 -- `text::number::read` meets its contract.
 -- Assumes nothing.
-use mathlib.Core.Path.{_≡_}
-use Prim.Native.Nat.{_≤_, _<_, _-_, _^_}
+use native.Mathlib.Omega.{arith}
 use borrow.Author.Needs.{needs}
-use lib.ListN.{length, drop}
-use Rattle.text.specs.Number.{number, readOn}
 use Rattle.text.proofs.Digits as law
+use Rattle.text.proofs.Runs as run
 use Rattle.text.proofs.number.read.Statement.{statement}
 use Rattle.text.proofs.number.read.Tie as tie
 
-abbrev Inv-loop : tie.InvT-loop
-Inv-loop s at value₀ i₀ value i =
-    (i ≤ length s) × (value < 10 ^ 16) × (number (drop at s) ≡ readOn value (drop i s))
-
-abbrev μ-loop : tie.MeasureT-loop
-μ-loop s at value₀ i₀ value i = length s - i
-
-returns : tie.Need-returns Inv-loop μ-loop
+returns : tie.Need-returns
 returns c = search (law.missing, law.number-end)
 
-shared-slice-read-digit : tie.Need-shared-slice-read-digit Inv-loop μ-loop
-shared-slice-read-digit c = search needs
+sub-if2 : tie.Need-sub-if2
+sub-if2 c = search needs
 
-digit-requires : tie.Need-digit-requires Inv-loop μ-loop
-digit-requires c κs = search needs
+read-bytes-requires : tie.Need-read-bytes-requires
+read-bytes-requires c κs = search needs
 
-returns-2 : tie.Need-returns-2 Inv-loop μ-loop
-returns-2 c = search (law.missing, law.number-other)
+returns-2 : tie.Need-returns-2
+returns-2 c = search needs
 
-add-i : tie.Need-add-i Inv-loop μ-loop
-add-i c = search needs
+lowered-requires : tie.Need-lowered-requires
+lowered-requires c κs = search needs
 
-loop-holds : tie.Need-loop-holds Inv-loop μ-loop
-loop-holds c = (search needs, search needs, search law.number-digit)
+leading-requires : tie.Need-leading-requires
+leading-requires c κs = search needs
 
-shared-slice-read-digit-2 : tie.Need-shared-slice-read-digit-2 Inv-loop μ-loop
-shared-slice-read-digit-2 c = search needs
+returns-3 : tie.Need-returns-3
+returns-3 c = run.no-number _ _ _ (omega arith) (c .before .before .lowered .ensures) _ (c .before .leading .ensures) (c .if3 .taken)
 
-digit-requires-2 : tie.Need-digit-requires-2 Inv-loop μ-loop
-digit-requires-2 c κs = search needs
+add-t10 : tie.Need-add-t10
+add-t10 c = search needs
 
-returns-3 : tie.Need-returns-3 Inv-loop μ-loop
-returns-3 c = search (law.found, law.read-other)
+returns-4 : tie.Need-returns-4
+returns-4 c = run.zero-alone _ _ _ (omega arith) (c .before .before .before .before .lowered .ensures) _ (c .before .before .before .leading .ensures) (c .before .if4 .taken) (c .if5 .taken)
 
-returns-4 : tie.Need-returns-4 Inv-loop μ-loop
-returns-4 c = search (law.missing, law.read-zero)
+returns-5 : tie.Need-returns-5
+returns-5 c = run.zero-leads _ _ _ (omega arith) (c .before .before .before .before .lowered .ensures) _ (c .before .before .before .leading .ensures) (c .before .if4 .taken) (c .before .before .if3 .left) (c .if5 .left)
 
-returns-5 : tie.Need-returns-5 Inv-loop μ-loop
-returns-5 c = search (law.missing, law.read-long)
+eight-requires : tie.Need-eight-requires
+eight-requires c κs = run.all-eight _ _ _ (omega arith) (c .before .before .before .before .lowered .ensures) _ (c .before .before .before .leading .ensures) (c .if6 .taken)
 
-mul-value : tie.Need-mul-value Inv-loop μ-loop
-mul-value c = search needs
+add-read-more : tie.Need-add-read-more
+add-read-more c = search needs
 
-add-value : tie.Need-add-value Inv-loop μ-loop
-add-value c = search needs
+read-more-requires : tie.Need-read-more-requires
+read-more-requires c κs = (run.value-pos _ _ _ (omega arith) (c .before .before .before .before .before .lowered .ensures) _ (c .before .before .before .before .leading .ensures) (c .before .before .if4 .left) _ (c .eight .ensures .0), search needs, search needs)
 
-add-i-2 : tie.Need-add-i-2 Inv-loop μ-loop
-add-i-2 c = search needs
+returns-6 : tie.Need-returns-6
+returns-6 c = run.value-long _ _ _ (omega arith) (c .before .before .before .before .before .before .lowered .ensures) _ (c .before .before .before .before .before .leading .ensures) (c .before .before .before .if4 .left) _ (c .before .before .if6 .taken) (c .before .eight .ensures .0) _ (c .read-more .ensures)
 
-loop-less : tie.Need-loop-less Inv-loop μ-loop
-loop-less c = search needs
+first-requires : tie.Need-first-requires
+first-requires c κs = search needs
 
-loop-again : tie.Need-loop-again Inv-loop μ-loop
-loop-again c = (search needs, search needs, search law.read-digit)
+add-t5 : tie.Need-add-t5
+add-t5 c = search needs
 
-returns-6 : tie.Need-returns-6 Inv-loop μ-loop
-returns-6 c = search (law.found, law.read-end)
+returns-7 : tie.Need-returns-7
+returns-7 c = run.value-short _ _ _ (omega arith) (c .before .before .before .before .before .lowered .ensures) _ (c .before .before .before .before .leading .ensures) (c .before .before .if4 .left) _ (c .before .before .before .if3 .left) (c .before .if6 .left) (c .first .ensures .0)
 
 pub read-spec : {M : Type 1} → statement M
 read-spec =
     tie.close
     (tie.spec
-    Inv-loop
-    μ-loop
     returns
-    shared-slice-read-digit
-    digit-requires
+    sub-if2
+    read-bytes-requires
     returns-2
-    add-i
-    loop-holds
-    shared-slice-read-digit-2
-    digit-requires-2
+    lowered-requires
+    leading-requires
     returns-3
+    add-t10
     returns-4
     returns-5
-    mul-value
-    add-value
-    add-i-2
-    loop-less
-    loop-again
-    returns-6)
+    eight-requires
+    add-read-more
+    read-more-requires
+    returns-6
+    first-requires
+    add-t5
+    returns-7)
