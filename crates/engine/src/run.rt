@@ -88,7 +88,7 @@ fn write_measured(
     ensures { λ r. ⌜ ((t : Statement) → Shows t (now (numbers .entry)) counts
         → RanAs (fitted (length (now (buffer .entry))) t after) lent (now (buffer .entry)) (now (buffer .exit)) r) ⌝ }
 {
-    let needed = print::put_statement(&mut buffer[..0], numbers, counts);
+    let needed = print::measure(numbers, counts);
     if buffer.len() < needed {
         return refused(7, needed as u64, lent);
     }
@@ -96,15 +96,15 @@ fn write_measured(
     written(needed, after)
 }
 
-// The same. A line has at most 1,600 bytes whatever its numbers are: a statement of few lines surely fits, and need
-// not be measured first.
+// The same. A line has at most 200 bytes whatever its numbers are: a statement of few lines surely fits, and need not
+// be measured first.
 fn write(numbers: &[u64], counts: Counts, lent: Standing, after: Standing, buffer: &mut [u8]) -> Ran
     requires { ⌜ Fits (now numbers) counts ⌝ }
     ensures { λ r. ⌜ ((t : Statement) → Shows t (now (numbers .entry)) counts
         → RanAs (fitted (length (now (buffer .entry))) t after) lent (now (buffer .entry)) (now (buffer .exit)) r) ⌝ }
 {
     let lines = counts.events + counts.treaties + counts.risk + counts.cat + 1;
-    if 1600 * lines <= buffer.len() {
+    if 200 * lines <= buffer.len() {
         let length = print::put_statement(buffer, numbers, counts);
         return written(length, after);
     }

@@ -1,3 +1,4 @@
 pub mod Keeps
 pub mod Rows
+pub mod Pieced
 pub mod Shown

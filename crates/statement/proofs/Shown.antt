@@ -9,10 +9,14 @@ use native.Mathlib.Omega.{arith}
 use lib.ListN.{length, drop, length-append, length-map}
 use lib.Seq.{take-at, drop-at, drop-drop}
 use Rattle.lists.specs.Each.{Each}
+use Rattle.lists.proofs.Sums.{sum-append}
 use Rattle.text.specs.Buffer.{Put}
 use Rattle.text.specs.Lines.{joined}
+use Rattle.text.specs.Number.{digits, digitsIn}
+use Rattle.text.specs.Template.{capital, holes, filled}
 use Rattle.text.proofs.Puts.{put-append}
 use Rattle.text.proofs.Feeds.{joined-append}
+use Rattle.text.proofs.Lengths.{filled-size}
 use Rattle.year.specs.Statement.{Line, EventLine, TreatyLine, LayerLine, Statement, lineText, eventShown, treatyShown}
 use Rattle.year.specs.Statement.{layersShown, totalShown, linesShown, statementText}
 use Rattle.year.specs.Statement.{eventTemplate, treatyTemplate, riskTemplate, catTemplate, totalTemplate}
@@ -54,6 +58,25 @@ rows-lines t w (l ∷ ls) rest a =
       a .0 .0,
     )
 
+-- how long they are, where f bytes of the template stand for themselves, with the line feed
+alike-size : (t : List ℕ) (w f : ℕ) → holes t ≡ w → length t + 1 ≡ w + f → (ls : List Line) → Alike t w ls
+    → length (joined (map lineText ls)) ≡ length ls * f + digitsIn (numbersOf ls)
+alike-size t w f h e [] a = omega arith
+alike-size t w f h e (l ∷ ls) a =
+    let same : length (lineText l) ≡ length (filled t (l .numbers) []) = rw (a .0 .0) in
+    let line = filled-size t (l .numbers) (a .0 .1 ∙ sym h) in
+    let more = alike-size t w f h e ls (a .1) in
+    omega (
+      arith,
+      same,
+      line,
+      more,
+      a .0 .1,
+      length-append (lineText l) (10 ∷ joined (map lineText ls)),
+      sum-append (λ (n : ℕ). length (digits n)) (l .numbers) (numbersOf ls),
+      suc-mul (length ls) f,
+    )
+
 -- n lines of one kind
 record Kind (t : List ℕ) (w : ℕ) (ls : List Line) (n : ℕ) : Type 0 where
   alike : Alike t w ls
@@ -62,6 +85,10 @@ record Kind (t : List ℕ) (w : ℕ) (ls : List Line) (n : ℕ) : Type 0 where
 module _ {t : List ℕ} {w : ℕ} {ls : List Line} {n : ℕ} (q : Kind t w ls n) where
   kind-length : length (numbersOf ls) ≡ n * w
   kind-length = alike-length t w ls (q .alike) ∙ rw (q .many)
+
+  kind-size : (f : ℕ) → holes t ≡ w → length t + 1 ≡ w + f
+      → length (joined (map lineText ls)) ≡ n * f + digitsIn (numbersOf ls)
+  kind-size f h e = rw (q .many) (alike-size t w f h e ls (q .alike))
 
   -- among lines whose numbers stand in ns from the place k on
   module _ (ns : List ℕ) (k : ℕ) (more : List Line) (from : drop k ns ≡ numbersOf (ls ++ more)) where
@@ -134,6 +161,35 @@ module _ {t₁ t₂ t₃ t₄ t₅ : List ℕ} {a b c e : List Line} (u : Line) 
       ++ (joined (map lineText e) ++ joined (map lineText (u ∷ [])))))
   five-parts = simp (map-append, joined-append)
 
+  -- their length
+  digits-both : (ls ms : List Line) → digitsIn (numbersOf (ls ++ ms)) ≡ digitsIn (numbersOf ls) + digitsIn (numbersOf ms)
+  digits-both ls ms =
+      rw (numbers-append ls ms) (sum-append (λ (n : ℕ). length (digits n)) (numbersOf ls) (numbersOf ms))
+
+  five-size : length (joined (map lineText a)) ≡ n₁ * 60 + digitsIn (numbersOf a)
+      → length (joined (map lineText b)) ≡ n₂ * 19 + digitsIn (numbersOf b)
+      → length (joined (map lineText c)) ≡ n₃ * 61 + digitsIn (numbersOf c)
+      → length (joined (map lineText e)) ≡ n₄ * 60 + digitsIn (numbersOf e)
+      → length (joined (map lineText (u ∷ []))) ≡ 1 * 59 + digitsIn (numbersOf (u ∷ []))
+      → length (joined (map lineText inOrder))
+      ≡ 60 * n₁ + 19 * n₂ + 61 * n₃ + 60 * n₄ + 59 + digitsIn (numbersOf inOrder)
+  five-size h₁ h₂ h₃ h₄ h₅ =
+      rw five-parts
+      (simp length-append
+      (omega (
+        arith,
+        h₁,
+        h₂,
+        h₃,
+        h₄,
+        h₅,
+        digits-both a (b ++ (c ++ (e ++ (u ∷ [])))),
+        digits-both b (c ++ (e ++ (u ∷ []))),
+        digits-both c (e ++ (u ∷ [])),
+        digits-both e (u ∷ []),
+        length-append (lineText u) (10 ∷ []),
+      )))
+
   -- put one after another, by their numbers ns
   five-put : (ns : List ℕ) → ns ≡ numbersOf inOrder
       → {d d₁ d₂ d₃ d₄ d₅ : List ℕ} {at first second third fourth end : ℕ}
@@ -182,16 +238,30 @@ statement-put ns c p₁ p₂ p₃ p₄ p₅ t h =
     (layer-kind riskTemplate 1 (t .layers .risk) _ (h .risk)) (layer-kind catTemplate 1 (t .layers .cat) _ (h .cat))
     (record { alike = ((refl, refl), tt); many = refl }) ns (h .numbers) p₁ p₂ p₃ p₄ p₅
 
--- each line has at most 1,600 bytes
-pub lines-short : (c : Counts) {first second third fourth end : ℕ} → first ≤ 0 + 1600 * c .events
-    → second ≤ first + 1600 * c .treaties → third ≤ second + 1600 * c .risk → fourth ≤ third + 1600 * c .cat
-    → end ≤ fourth + 1600 → end ≤ 1600 * linesIn c
+-- how long it is
+pub statement-size : (ns : List ℕ) (c : Counts) (r : ℕ) → r ≡ digitsIn ns → (t : Statement) → Shows t ns c
+    → 60 * c .events + 19 * c .treaties + 61 * c .risk + 60 * c .cat + 59 + r ≡ length (statementText t)
+unfolding statementText holes capital
+statement-size ns c r e t h =
+    let q₁ = event-kind (t .events) _ (h .events) in
+    let q₂ = treaty-kind (t .treaties) _ (h .treaties) in
+    let q₃ = layer-kind riskTemplate 1 (t .layers .risk) _ (h .risk) in
+    let q₄ = layer-kind catTemplate 1 (t .layers .cat) _ (h .cat) in
+    let q₅ : Kind totalTemplate 6 (totalShown (t .total) ∷ []) 1 = record { alike = ((refl, refl), tt); many = refl } in
+    let all = five-size (totalShown (t .total)) q₁ q₂ q₃ q₄ q₅ (kind-size q₁ 60 refl refl) (kind-size q₂ 19 refl refl)
+    (kind-size q₃ 61 refl refl) (kind-size q₄ 60 refl refl) (kind-size q₅ 59 refl refl) in
+    omega (arith, all, e, ap digitsIn (h .numbers))
+
+-- each line has at most 200 bytes
+pub lines-short : (c : Counts) {first second third fourth end : ℕ} → first ≤ 0 + 200 * c .events
+    → second ≤ first + 200 * c .treaties → third ≤ second + 200 * c .risk → fourth ≤ third + 200 * c .cat
+    → end ≤ fourth + 200 → end ≤ 200 * linesIn c
 lines-short c h₁ h₂ h₃ h₄ h₅ = omega arith
 
 -- where the line of the totals is put, and where its numbers stand
 module _ (ns : List ℕ) (c : Counts) (f : Fits ns c) where
-  pub fourth-small : {first second third fourth : ℕ} → first ≤ 0 + 1600 * c .events
-      → second ≤ first + 1600 * c .treaties → third ≤ second + 1600 * c .risk → fourth ≤ third + 1600 * c .cat
+  pub fourth-small : {first second third fourth : ℕ} → first ≤ 0 + 200 * c .events
+      → second ≤ first + 200 * c .treaties → third ≤ second + 200 * c .risk → fourth ≤ third + 200 * c .cat
       → fourth < 2 ^ 40
   fourth-small h₁ h₂ h₃ h₄ = omega (arith, f .events, f .treaties, f .risk, f .cat)
 

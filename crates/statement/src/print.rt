@@ -1,14 +1,18 @@
 // A statement's text from the numbers of its lines.
+ghost use mathlib.Core.List.{[], _∷_, _++_};
+ghost use mathlib.Core.Path.{_≡_};
 ghost use Prim.Native.Nat.{_+_, _*_, _^_, _≤_, _<_};
-ghost use lib.ListN.{length, drop};
+ghost use lib.ListN.{length, drop, getD};
 ghost use Rattle.text.specs.Buffer.{Put};
-ghost use Rattle.text.specs.Template.{holes};
+ghost use Rattle.text.specs.Number.{digits};
+ghost use Rattle.text.specs.Template.{filled};
 ghost use Rattle.year.specs.Statement.{eventTemplate, treatyTemplate, riskTemplate, catTemplate, totalTemplate};
 ghost use Rattle.year.specs.Statement.{Statement, statementText};
 ghost use Rattle.statement.specs.Numbers.{rowsText};
+ghost use Rattle.statement.specs.Forms.{templateOf, widthOf, amountsTail, lastTail, figuresTail};
 ghost use Rattle.statement.specs.Shows.{linesIn, Fits, Shows};
 use text::buffer;
-use text::template;
+use text::number;
 
 // How many lines of each kind a statement has, but for its last.
 pub struct Counts {
@@ -18,125 +22,215 @@ pub struct Counts {
     pub cat: usize,
 }
 
-// A line for each of `count` rows of the numbers from a place on, by a template; each with its line feed.
+// The kinds of lines.
+pub enum Form {
+    Event,
+    Treaty,
+    Risk,
+    Cat,
+    Total,
+}
+
+// How many numbers a line has.
+fn width(form: Form) -> usize
+    ensures { λ r. ⌜ r ≡ widthOf form ⌝ }
+{
+    match form {
+        Form::Event => 7,
+        Form::Treaty => 2,
+        Form::Risk => 5,
+        Form::Cat => 5,
+        Form::Total => 6,
+    }
+}
+
+// A piece of a line and the number after it, which stands at a place of the line's numbers, where there is room for
+// them.
+fn put_field(out: &mut [u8], at: usize, piece: &[u8], row: &[u64], k: usize) -> usize
+    requires { ⌜ (at + length (now piece) + 20 ≤ length (now out)) × (k < length (now row)) ⌝ }
+    ensures { λ r. ⌜ Put (now (out .entry)) at (now (piece .entry) ++ digits (getD (now (row .entry)) k 0))
+        (now (out .exit)) r × (r ≤ at + length (now (piece .entry)) + 20) ⌝ }
+{
+    let next = buffer::put_within(out, at, piece);
+    number::put_within(out, next, row[k])
+}
+
+// The last three amounts of an event's line and of the totals', from a place of the line's numbers on, and the line
+// feed.
+fn put_last(out: &mut [u8], at: usize, row: &[u64], from: usize) -> usize
+    requires { ⌜ (at + 88 ≤ length (now out)) × (from + 3 ≤ length (now row)) ⌝ }
+    ensures { λ r. ⌜ Put (now (out .entry)) at (filled lastTail (drop from (now (row .entry))) (10 ∷ []))
+        (now (out .exit)) r × (r ≤ at + 88) ⌝ }
+{
+    let cat = put_field(out, at, b") (cat ", row, from);
+    let net = put_field(out, cat, b") (net ", row, from + 1);
+    let premium = put_field(out, net, b") (premium ", row, from + 2);
+    buffer::put_within(out, premium, b"))\n")
+}
+
+// All six, and the line feed.
+fn put_amounts(out: &mut [u8], at: usize, row: &[u64], from: usize) -> usize
+    requires { ⌜ (at + 173 ≤ length (now out)) × (from + 6 ≤ length (now row)) ⌝ }
+    ensures { λ r. ⌜ Put (now (out .entry)) at (filled amountsTail (drop from (now (row .entry))) (10 ∷ []))
+        (now (out .exit)) r × (r ≤ at + 173) ⌝ }
+{
+    let gross = put_field(out, at, b" (gross ", row, from);
+    let ceded = put_field(out, gross, b") (ceded ", row, from + 1);
+    let risk = put_field(out, ceded, b") (risk ", row, from + 2);
+    put_last(out, risk, row, from + 3)
+}
+
+// The figures that end a layer's line, and the line feed.
+fn put_figures(out: &mut [u8], at: usize, row: &[u64]) -> usize
+    requires { ⌜ (at + 129 ≤ length (now out)) × (5 ≤ length (now row)) ⌝ }
+    ensures { λ r. ⌜ Put (now (out .entry)) at (filled figuresTail (drop 1 (now (row .entry))) (10 ∷ []))
+        (now (out .exit)) r × (r ≤ at + 129) ⌝ }
+{
+    let deductible = put_field(out, at, b" (deductible ", row, 1);
+    let cover = put_field(out, deductible, b") (cover ", row, 2);
+    let recovered = put_field(out, cover, b") (recovered ", row, 3);
+    let premium = put_field(out, recovered, b") (premium ", row, 4);
+    buffer::put_within(out, premium, b"))\n")
+}
+
+// The line of an event, with its line feed, where there is room for one: 60 bytes and seven numbers.
+fn put_event(out: &mut [u8], at: usize, row: &[u64]) -> usize
+    requires { ⌜ (at + 200 ≤ length (now out)) × (7 ≤ length (now row)) ⌝ }
+    ensures { λ r. ⌜ Put (now (out .entry)) at (filled eventTemplate (now (row .entry)) (10 ∷ []))
+        (now (out .exit)) r × (r ≤ at + 200) ⌝ }
+{
+    let day = put_field(out, at, b"(event ", row, 0);
+    put_amounts(out, day, row, 1)
+}
+
+// That of a treaty.
+fn put_treaty(out: &mut [u8], at: usize, row: &[u64]) -> usize
+    requires { ⌜ (at + 200 ≤ length (now out)) × (2 ≤ length (now row)) ⌝ }
+    ensures { λ r. ⌜ Put (now (out .entry)) at (filled treatyTemplate (now (row .entry)) (10 ∷ []))
+        (now (out .exit)) r × (r ≤ at + 200) ⌝ }
+{
+    let number = put_field(out, at, b"(treaty ", row, 0);
+    let ceded = put_field(out, number, b" (ceded ", row, 1);
+    buffer::put_within(out, ceded, b"))\n")
+}
+
+// That of a risk layer.
+fn put_risk(out: &mut [u8], at: usize, row: &[u64]) -> usize
+    requires { ⌜ (at + 200 ≤ length (now out)) × (5 ≤ length (now row)) ⌝ }
+    ensures { λ r. ⌜ Put (now (out .entry)) at (filled riskTemplate (now (row .entry)) (10 ∷ []))
+        (now (out .exit)) r × (r ≤ at + 200) ⌝ }
+{
+    let place = put_field(out, at, b"(layer risk ", row, 0);
+    put_figures(out, place, row)
+}
+
+// That of a catastrophe layer.
+fn put_cat(out: &mut [u8], at: usize, row: &[u64]) -> usize
+    requires { ⌜ (at + 200 ≤ length (now out)) × (5 ≤ length (now row)) ⌝ }
+    ensures { λ r. ⌜ Put (now (out .entry)) at (filled catTemplate (now (row .entry)) (10 ∷ []))
+        (now (out .exit)) r × (r ≤ at + 200) ⌝ }
+{
+    let place = put_field(out, at, b"(layer cat ", row, 0);
+    put_figures(out, place, row)
+}
+
+// That of the totals.
+fn put_total(out: &mut [u8], at: usize, row: &[u64]) -> usize
+    requires { ⌜ (at + 200 ≤ length (now out)) × (6 ≤ length (now row)) ⌝ }
+    ensures { λ r. ⌜ Put (now (out .entry)) at (filled totalTemplate (now (row .entry)) (10 ∷ []))
+        (now (out .exit)) r × (r ≤ at + 200) ⌝ }
+{
+    let word = buffer::put_within(out, at, b"(total");
+    put_amounts(out, word, row, 0)
+}
+
+// A line of any kind, with its line feed, where there is room for one. It has at most 200 bytes.
+fn put_within(out: &mut [u8], at: usize, form: Form, row: &[u64]) -> usize
+    requires { ⌜ (at + 200 ≤ length (now out)) × (widthOf form ≤ length (now row)) ⌝ }
+    ensures { λ r. ⌜ Put (now (out .entry)) at (filled (templateOf form) (now (row .entry)) (10 ∷ []))
+        (now (out .exit)) r × (r ≤ at + 200) ⌝ }
+{
+    match form {
+        Form::Event => put_event(out, at, row),
+        Form::Treaty => put_treaty(out, at, row),
+        Form::Risk => put_risk(out, at, row),
+        Form::Cat => put_cat(out, at, row),
+        Form::Total => put_total(out, at, row),
+    }
+}
+
+// The same as far as there is room.
+fn put_cut(out: &mut [u8], at: usize, form: Form, row: &[u64]) -> usize
+    requires { ⌜ (at < 2 ^ 41) × (widthOf form ≤ length (now row)) ⌝ }
+    ensures { λ r. ⌜ Put (now (out .entry)) at (filled (templateOf form) (now (row .entry)) (10 ∷ []))
+        (now (out .exit)) r × (r ≤ at + 200) ⌝ }
+{
+    let mut line = [0u8; 200];
+    let end = put_within(&mut line, 0, form, row);
+    buffer::put_bytes(out, at, &line[..end])
+}
+
+// A line with its line feed.
+fn put_line(out: &mut [u8], at: usize, form: Form, row: &[u64]) -> usize
+    requires { ⌜ (at < 2 ^ 41) × (widthOf form ≤ length (now row)) ⌝ }
+    ensures { λ r. ⌜ Put (now (out .entry)) at (filled (templateOf form) (now (row .entry)) (10 ∷ []))
+        (now (out .exit)) r × (r ≤ at + 200) ⌝ }
+{
+    if at + 200 <= out.len() {
+        return put_within(out, at, form, row);
+    }
+    put_cut(out, at, form, row)
+}
+
+// A line for each of `count` rows of the numbers from a place on.
 fn put_lines(
     out: &mut [u8],
     at: usize,
-    template: &[u8],
-    width: usize,
+    form: Form,
     count: usize,
     numbers: &[u64],
     from: usize,
 ) -> usize
-    requires { ⌜ (at < 2 ^ 40) × (count < 2 ^ 16) × (holes (now template) ≤ width) × (length (now template) < 80)
-        × (from + count * width ≤ length (now numbers)) ⌝ }
+    requires { ⌜ (at < 2 ^ 40) × (count < 2 ^ 16) × (from + count * widthOf form ≤ length (now numbers)) ⌝ }
     ensures { λ r. ⌜ Put (now (out .entry)) at
-        (rowsText (now (template .entry)) width count (drop from (now (numbers .entry)))) (now (out .exit)) r
-        × (r ≤ at + 1600 * count) ⌝ }
+        (rowsText (templateOf form) (widthOf form) count (drop from (now (numbers .entry)))) (now (out .exit)) r
+        × (r ≤ at + 200 * count) ⌝ }
 {
+    let wide = width(form);
     let mut next = at;
     let mut begin = from;
     let mut i: usize = 0;
     while i < count {
-        let end = begin + width;
-        let line = template::put(out, next, template, &numbers[begin..end]);
-        next = buffer::put(out, line, b'\n');
+        let end = begin + wide;
+        next = put_line(out, next, form, &numbers[begin..end]);
         begin = end;
         i += 1;
     }
     next
 }
 
-// The lines of the events.
-fn put_events(out: &mut [u8], at: usize, count: usize, numbers: &[u64], from: usize) -> usize
-    requires { ⌜ (at < 2 ^ 40) × (count < 2 ^ 16) × (from + 7 * count ≤ length (now numbers)) ⌝ }
-    ensures { λ r. ⌜ Put (now (out .entry)) at (rowsText eventTemplate 7 count (drop from (now (numbers .entry))))
-        (now (out .exit)) r × (r ≤ at + 1600 * count) ⌝ }
-{
-    put_lines(
-        out,
-        at,
-        b"(event D (gross G) (ceded C) (risk R) (cat K) (net N) (premium P))",
-        7,
-        count,
-        numbers,
-        from,
-    )
-}
-
-// Those of the treaties.
-fn put_treaties(out: &mut [u8], at: usize, count: usize, numbers: &[u64], from: usize) -> usize
-    requires { ⌜ (at < 2 ^ 40) × (count < 2 ^ 16) × (from + 2 * count ≤ length (now numbers)) ⌝ }
-    ensures { λ r. ⌜ Put (now (out .entry)) at (rowsText treatyTemplate 2 count (drop from (now (numbers .entry))))
-        (now (out .exit)) r × (r ≤ at + 1600 * count) ⌝ }
-{
-    put_lines(out, at, b"(treaty T (ceded C))", 2, count, numbers, from)
-}
-
-// Those of the risk layers.
-fn put_risk(out: &mut [u8], at: usize, count: usize, numbers: &[u64], from: usize) -> usize
-    requires { ⌜ (at < 2 ^ 40) × (count < 2 ^ 16) × (from + 5 * count ≤ length (now numbers)) ⌝ }
-    ensures { λ r. ⌜ Put (now (out .entry)) at (rowsText riskTemplate 5 count (drop from (now (numbers .entry))))
-        (now (out .exit)) r × (r ≤ at + 1600 * count) ⌝ }
-{
-    put_lines(
-        out,
-        at,
-        b"(layer risk I (deductible D) (cover C) (recovered R) (premium P))",
-        5,
-        count,
-        numbers,
-        from,
-    )
-}
-
-// Those of the catastrophe layers.
-fn put_cat(out: &mut [u8], at: usize, count: usize, numbers: &[u64], from: usize) -> usize
-    requires { ⌜ (at < 2 ^ 40) × (count < 2 ^ 16) × (from + 5 * count ≤ length (now numbers)) ⌝ }
-    ensures { λ r. ⌜ Put (now (out .entry)) at (rowsText catTemplate 5 count (drop from (now (numbers .entry))))
-        (now (out .exit)) r × (r ≤ at + 1600 * count) ⌝ }
-{
-    put_lines(
-        out,
-        at,
-        b"(layer cat I (deductible D) (cover C) (recovered R) (premium P))",
-        5,
-        count,
-        numbers,
-        from,
-    )
-}
-
-// The line of the totals.
-fn put_total(out: &mut [u8], at: usize, numbers: &[u64], from: usize) -> usize
-    requires { ⌜ (at < 2 ^ 40) × (from + 6 ≤ length (now numbers)) ⌝ }
-    ensures { λ r. ⌜ Put (now (out .entry)) at (rowsText totalTemplate 6 1 (drop from (now (numbers .entry))))
-        (now (out .exit)) r × (r ≤ at + 1600) ⌝ }
-{
-    put_lines(
-        out,
-        at,
-        b"(total (gross G) (ceded C) (risk R) (cat K) (net N) (premium P))",
-        6,
-        1,
-        numbers,
-        from,
-    )
-}
-
-// The whole text from the front of a buffer, from the numbers of all lines; on an empty part of it this only measures.
+// The whole text from the front of a buffer, from the numbers of all lines.
 pub fn put_statement(out: &mut [u8], numbers: &[u64], counts: Counts) -> usize
     requires { ⌜ Fits (now numbers) counts ⌝ }
     ensures { λ r. ⌜ ((t : Statement) → Shows t (now (numbers .entry)) counts
-        → Put (now (out .entry)) 0 (statementText t) (now (out .exit)) r) × (r ≤ 1600 * linesIn counts) ⌝ }
+        → Put (now (out .entry)) 0 (statementText t) (now (out .exit)) r) × (r ≤ 200 * linesIn counts) ⌝ }
 {
     let treaties = 7 * counts.events;
     let risk = treaties + 2 * counts.treaties;
     let cat = risk + 5 * counts.risk;
     let total = cat + 5 * counts.cat;
-    let first = put_events(out, 0, counts.events, numbers, 0);
-    let second = put_treaties(out, first, counts.treaties, numbers, treaties);
-    let third = put_risk(out, second, counts.risk, numbers, risk);
-    let fourth = put_cat(out, third, counts.cat, numbers, cat);
-    put_total(out, fourth, numbers, total)
+    let first = put_lines(out, 0, Form::Event, counts.events, numbers, 0);
+    let second = put_lines(out, first, Form::Treaty, counts.treaties, numbers, treaties);
+    let third = put_lines(out, second, Form::Risk, counts.risk, numbers, risk);
+    let fourth = put_lines(out, third, Form::Cat, counts.cat, numbers, cat);
+    put_lines(out, fourth, Form::Total, 1, numbers, total)
+}
+
+// How many bytes it has: those that stand for themselves in each kind of line, with its line feed, and the digits.
+pub fn measure(numbers: &[u64], counts: Counts) -> usize
+    requires { ⌜ Fits (now numbers) counts ⌝ }
+    ensures { λ r. ⌜ ((t : Statement) → Shows t (now (numbers .entry)) counts → r ≡ length (statementText t)) ⌝ }
+{
+    let lines = 60 * counts.events + 19 * counts.treaties + 61 * counts.risk + 60 * counts.cat + 59;
+    lines + number::sizes(numbers)
 }

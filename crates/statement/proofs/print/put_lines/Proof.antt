@@ -2,42 +2,42 @@
 -- Assumes nothing.
 use Prim.Native.Nat.{_-_}
 use borrow.Author.Needs.{needs}
+use Rattle.statement.specs.Forms.{templateOf}
 use Rattle.statement.proofs.Rows as law
 use Rattle.statement.proofs.print.put_lines.Statement.{statement}
 use Rattle.statement.proofs.print.put_lines.Tie as tie
 
 abbrev Inv-loop : tie.InvT-loop
-Inv-loop out₀ at template width count numbers from next₀ begin₀ i₀ out next begin i =
-    law.Lined template width count numbers from out₀ at out next begin i
+Inv-loop out₀ at form count numbers from wide next₀ begin₀ i₀ out next begin i = law.Lined (templateOf form) wide count numbers from out₀ at out next begin i
 
 abbrev μ-loop : tie.MeasureT-loop
-μ-loop out₀ at template width count numbers from next₀ begin₀ i₀ out next begin i = count - i
+μ-loop out₀ at form count numbers from wide next₀ begin₀ i₀ out next begin i = count - i
+
+width-requires : tie.Need-width-requires Inv-loop μ-loop
+width-requires c κs = search needs
 
 loop-holds : tie.Need-loop-holds Inv-loop μ-loop
 loop-holds c = search law.none-lined
 
 add-end : tie.Need-add-end Inv-loop μ-loop
 add-end c =
-    let h = law.row-inside _ _ _ _ _ _ _ _ _ _ _ (c .before .loop .inv) (search needs) in
+    let h = law.row-inside _ _ _ _ _ _ _ _ (c .before .before .width .ensures) _ _ _ _ (c .before .loop .inv) (search needs) in
     search needs
 
-mul-put : tie.Need-mul-put Inv-loop μ-loop
-mul-put c = search needs
+mul-put-line : tie.Need-mul-put-line Inv-loop μ-loop
+mul-put-line c = search needs
 
-sub-put : tie.Need-sub-put Inv-loop μ-loop
-sub-put c = search needs
+sub-put-line : tie.Need-sub-put-line Inv-loop μ-loop
+sub-put-line c = search needs
 
-part-put-start : tie.Need-part-put-start Inv-loop μ-loop
-part-put-start c = search needs
+part-put-line-start : tie.Need-part-put-line-start Inv-loop μ-loop
+part-put-line-start c = search needs
 
-part-put-end : tie.Need-part-put-end Inv-loop μ-loop
-part-put-end c = search (law.row-inside, needs)
+part-put-line-end : tie.Need-part-put-line-end Inv-loop μ-loop
+part-put-line-end c = search (law.row-inside, needs)
 
-put-requires : tie.Need-put-requires Inv-loop μ-loop
-put-requires c κs = search (law.lined-small, law.row-inside, needs)
-
-put-requires-2 : tie.Need-put-requires-2 Inv-loop μ-loop
-put-requires-2 c κs = search (law.lined-small, needs)
+put-line-requires : tie.Need-put-line-requires Inv-loop μ-loop
+put-line-requires c κs = (search law.lined-small, search law.row-long)
 
 add-i : tie.Need-add-i Inv-loop μ-loop
 add-i c = search needs
@@ -60,14 +60,14 @@ put-lines-spec =
     (tie.spec
     Inv-loop
     μ-loop
+    width-requires
     loop-holds
     add-end
-    mul-put
-    sub-put
-    part-put-start
-    part-put-end
-    put-requires
-    put-requires-2
+    mul-put-line
+    sub-put-line
+    part-put-line-start
+    part-put-line-end
+    put-line-requires
     add-i
     loop-less
     loop-again

@@ -1,23 +1,35 @@
 -- `statement::print::put_risk` meets its contract.
 -- Assumes nothing.
 use borrow.Author.Needs.{needs}
-use Rattle.text.specs.Template.{capital, holes}
+use Rattle.statement.proofs.Pieced as law
 use Rattle.statement.proofs.print.put_risk.Statement.{statement}
 use Rattle.statement.proofs.print.put_risk.Tie as tie
 
-slice-aggregate-put-lines : tie.Need-slice-aggregate-put-lines
-slice-aggregate-put-lines c = search needs
+slice-aggregate-put-field : tie.Need-slice-aggregate-put-field
+slice-aggregate-put-field c = search needs
 
-put-lines-requires : tie.Need-put-lines-requires
-unfolding holes capital
-put-lines-requires c κs = search needs
+put-field-requires : tie.Need-put-field-requires
+put-field-requires c κs = search needs
+
+put-figures-requires : tie.Need-put-figures-requires
+put-figures-requires c κs = search needs
 
 same-length : tie.Need-same-length
 same-length c = search needs
 
 returns : tie.Need-returns
-returns c = search needs
+returns c =
+    let figures = c .before .before in
+    let place = figures .before .before .before .before in
+    let start = place .before .before .before .before .before in
+    (law.risk-put (start .args .row .now) (place .put-field .ensures .0) (figures .put-figures .ensures .0), search needs)
 
 pub put-risk-spec : {M : Type 1} → statement M
 put-risk-spec =
-    tie.close (tie.spec slice-aggregate-put-lines put-lines-requires same-length returns)
+    tie.close
+    (tie.spec
+    slice-aggregate-put-field
+    put-field-requires
+    put-figures-requires
+    same-length
+    returns)

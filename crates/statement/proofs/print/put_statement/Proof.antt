@@ -26,20 +26,20 @@ mul-total c = search needs
 add-total : tie.Need-add-total
 add-total c = search needs
 
-put-events-requires : tie.Need-put-events-requires
-put-events-requires c κs = search needs
+put-lines-requires : tie.Need-put-lines-requires
+put-lines-requires c κs = search needs
 
-put-treaties-requires : tie.Need-put-treaties-requires
-put-treaties-requires c κs = search needs
+put-lines-requires-2 : tie.Need-put-lines-requires-2
+put-lines-requires-2 c κs = search needs
 
-put-risk-requires : tie.Need-put-risk-requires
-put-risk-requires c κs = search needs
+put-lines-requires-3 : tie.Need-put-lines-requires-3
+put-lines-requires-3 c κs = search needs
 
-put-cat-requires : tie.Need-put-cat-requires
-put-cat-requires c κs = search needs
+put-lines-requires-4 : tie.Need-put-lines-requires-4
+put-lines-requires-4 c κs = search needs
 
-put-total-requires : tie.Need-put-total-requires
-put-total-requires c κs = (search law.fourth-small, search law.total-inside)
+put-lines-requires-5 : tie.Need-put-lines-requires-5
+put-lines-requires-5 c κs = (search law.fourth-small, search needs, search law.total-inside)
 
 same-length : tie.Need-same-length
 same-length c = search needs
@@ -51,10 +51,8 @@ returns c =
     let risk = cat .before .before .before .before in
     let treaties = risk .before .before .before .before in
     let events = treaties .before .before .before .before in (
-      law.statement-put _ _ (events .put-events .ensures .0) (treaties .put-treaties .ensures .0)
-          (risk .put-risk .ensures .0) (cat .put-cat .ensures .0) (total .put-total .ensures .0),
-      law.lines-short _ (events .put-events .ensures .1) (treaties .put-treaties .ensures .1)
-          (risk .put-risk .ensures .1) (cat .put-cat .ensures .1) (total .put-total .ensures .1),
+      law.statement-put _ _ (events .put-lines .ensures .0) (treaties .put-lines2 .ensures .0) (risk .put-lines3 .ensures .0) (cat .put-lines4 .ensures .0) (total .put-lines5 .ensures .0),
+      law.lines-short _ (events .put-lines .ensures .1) (treaties .put-lines2 .ensures .1) (risk .put-lines3 .ensures .1) (cat .put-lines4 .ensures .1) (total .put-lines5 .ensures .1),
     )
 
 pub put-statement-spec : {M : Type 1} → statement M
@@ -68,10 +66,10 @@ put-statement-spec =
     add-cat
     mul-total
     add-total
-    put-events-requires
-    put-treaties-requires
-    put-risk-requires
-    put-cat-requires
-    put-total-requires
+    put-lines-requires
+    put-lines-requires-2
+    put-lines-requires-3
+    put-lines-requires-4
+    put-lines-requires-5
     same-length
     returns)

@@ -1,0 +1,36 @@
+-- Document 01, Events and statement: the kinds of a statement's lines.
+-- Assumes nothing.
+use mathlib.Core.List.{List}
+use Prim.Native.Nat.{ℕ}
+use Rattle.text.specs.Bytes.{bytes}
+use Rattle.year.specs.Statement.{eventTemplate, treatyTemplate, riskTemplate, catTemplate, totalTemplate}
+use Rattle.statement.specs.declared.print.Form.{Form}
+use Rattle.statement.specs.declared.print.Form.the-variants.{Event, Treaty, Risk, Cat, Total}
+
+-- the template of a kind
+abbrev pub templateOf : Form → List ℕ
+templateOf Event = eventTemplate
+templateOf Treaty = treatyTemplate
+templateOf Risk = riskTemplate
+templateOf Cat = catTemplate
+templateOf Total = totalTemplate
+
+-- how many numbers it has
+abbrev pub widthOf : Form → ℕ
+widthOf Event = 7
+widthOf Treaty = 2
+widthOf Risk = 5
+widthOf Cat = 5
+widthOf Total = 6
+
+-- what ends an event's template and the totals'
+abbrev pub amountsTail : List ℕ
+amountsTail = bytes " (gross G) (ceded C) (risk R) (cat K) (net N) (premium P))"
+
+-- what ends those, from the catastrophe layers' amount on
+abbrev pub lastTail : List ℕ
+lastTail = bytes ") (cat K) (net N) (premium P))"
+
+-- what ends a layer's
+abbrev pub figuresTail : List ℕ
+figuresTail = bytes " (deductible D) (cover C) (recovered R) (premium P))"
