@@ -1,4 +1,5 @@
 pub mod EventBounds
 pub mod EventBooked
+pub mod Quiet
 pub mod Booking
 pub mod Beginning

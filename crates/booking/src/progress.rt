@@ -2,7 +2,8 @@
 ghost use mathlib.Core.List.{List, [], _∷_};
 ghost use mathlib.Core.Path.{_≡_};
 ghost use mathlib.Core.Bool.{true};
-ghost use Prim.Native.Nat.{ℕ};
+ghost use Prim.Native.Nat.{ℕ, _<_, _^_};
+ghost use Rattle.text.specs.Buffer.{Put};
 ghost use Rattle.treaty.specs.declared.Treaty.{Treaty};
 ghost use Rattle.treaty.specs.declared.Loss.{Loss};
 ghost use Rattle.treaty.specs.Losses.{leftOfEach};
@@ -13,7 +14,7 @@ ghost use Rattle.year.specs.Standing.{standingOf, standingPasses};
 ghost use Rattle.losses.specs.Register.{numbered};
 ghost use Rattle.losses.specs.Cede.{lossesFrom, AfterTreaties};
 ghost use Rattle.booking.specs.Records.{yearIn, SoundRecords};
-ghost use Rattle.booking.specs.Progress.{RoomForMore, CanEnter, CanBook, Booked, FirstOf};
+ghost use Rattle.booking.specs.Progress.{RoomForMore, CanEnter, CanBook, Booked, FirstOf, quietNumbers};
 use layer::tier::Tier;
 use losses::cede;
 use losses::cede::Ceded;
@@ -42,6 +43,14 @@ fn total_with(total: Amounts, event: Amounts) -> Amounts
         net: total.net + event.net,
         premium: total.premium + event.premium,
     }
+}
+
+// Keeps the numbers of the line of an event without losses; its amounts are all 0.
+pub fn keep_quiet(kept: &mut [u64], at: usize, day: u64) -> usize
+    requires { ⌜ at < 2 ^ 32 ⌝ }
+    ensures { λ r. ⌜ Put (now (kept .entry)) at (quietNumbers day) (now (kept .exit)) r ⌝ }
+{
+    scratch::keep(kept, at, &[day, 0, 0, 0, 0, 0, 0])
 }
 
 // `kept` is the place after the numbers of the events so far.

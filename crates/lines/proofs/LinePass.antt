@@ -37,10 +37,11 @@ use Rattle.losses.specs.Cede.{lossesFrom, cededAdded}
 use Rattle.losses.proofs.Added.{added-length, added-le}
 use Rattle.booking.specs.declared.progress.Progress.{Progress}
 use Rattle.booking.specs.Records.{yearIn}
-use Rattle.booking.specs.Progress.{CanBook, Booked, Stands}
+use Rattle.booking.specs.Progress.{CanBook, Booked, Stands, quietNumbers}
 use Rattle.losses.proofs.RegisterFacts.{treaties, cedes, by-number, places-terms, lack-le, nine-lacks}
 use Rattle.losses.proofs.RegisterFacts.{lacking-same}
 use Rattle.booking.proofs.EventBounds.{tier-layers, Bookable, amounts-le}
+use Rattle.booking.proofs.Quiet.{quiet-booked}
 use Rattle.booking.proofs.Booking.{one-booked, amounts-added-le}
 use Rattle.lines.specs.declared.pass.Passed.{Passed}
 use Rattle.lines.specs.Pass.{CanPass, passIs}
@@ -316,6 +317,9 @@ module _ (register : Register) (start : Progress) (text d₀ cs₀ lacks ns : Li
             kept = omega (arith, g .few, g .within, g .can .short);
           }
 
+          pub place-fits : p .kept < 2 ^ 32
+          place-fits = can-book .kept
+
           bookable : Bookable (treaties register) (yearIn (p .records)) event
           bookable = record {
             cedes = cedes register (g .can .treaties) (g .can .by-number);
@@ -361,6 +365,15 @@ module _ (register : Register) (start : Progress) (text d₀ cs₀ lacks ns : Li
                 same-kept = same ∙ g .same-kept;
                 rest = onward event (read is-closed) fine ∙ rw (booked .day);
               }
+
+          -- an event without losses, the numbers of whose line were kept
+          pub goes-on-quiet : count ≡ 0 → (next : ℕ) (d′ : List ℕ) → Put d (p .kept) (quietNumbers day) d′ next
+              → length d′ ≡ length d
+              → Going register start text d₀ cs₀ lacks ns′
+              (record { records = p .records; day = day; total = p .total; kept = next }) d′ cs (number + 1) (e + 1)
+          goes-on-quiet zero-losses next d′ put same =
+              goes-on _ d′ cs
+              (λ ts q. rw zero-losses (quiet-booked ts p (g .stands .sound) day next d d′ cs put)) same
 
 -- a place that is and is not before the end
 pub not-both : {C : Type 0} {m n : ℕ} → m < n → n ≤ m → C

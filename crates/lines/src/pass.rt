@@ -4,6 +4,7 @@ ghost use Rattle.programme.specs.Contracts.{treatiesIn};
 ghost use Rattle.events.specs.Event.{formsOf};
 ghost use Rattle.events.specs.Read.{readFrom};
 ghost use Rattle.lines.specs.Pass.{CanPass, passIs};
+use booking::progress;
 use booking::progress::Progress;
 use events::form;
 use events::form::Head;
@@ -84,7 +85,13 @@ pub fn pass(
             return refused(fault, number, start);
         }
         at = end + 1;
-        progress = progress.book(register.numbered, day, &losses[..3 * count], kept, cessions);
+        if count == 0 {
+            let next = progress::keep_quiet(kept, progress.kept, day);
+            progress.day = day;
+            progress.kept = next;
+        } else {
+            progress = progress.book(register.numbered, day, &losses[..3 * count], kept, cessions);
+        }
     }
     // Still before the end: the loops were left by the label, at bytes that are no loss form.
     if at < text.len() {

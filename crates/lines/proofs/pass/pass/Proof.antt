@@ -200,13 +200,56 @@ returns-3 c =
 add-at : tie.Need-add-at Inv-losses μ-losses Inv-lines μ-lines
 add-at c = search needs
 
+keep-quiet-requires : tie.Need-keep-quiet-requires Inv-losses μ-losses Inv-lines μ-lines
+keep-quiet-requires c κs =
+    let fine = c .before .before in
+    let fault = fine .before in
+    let closing = fault .before in
+    let ended = closing .before in
+    let listed = ended .before in
+    let headed = listed .before .before .before .before .before .before .before in
+    let line = headed .before in
+    let tested = line .before in
+    let lines = tested .before in
+    law.place-fits _ _ _ _ _ _ _ _ _ _ _ _ (lines .lines .inv) _ (line .end .ensures .0)
+    (tested .lines-test .taken) (line .end .ensures .2) (headed .if1 .left) _ _ _ _ _ _ (listed .losses .inv)
+    (ended .losses-test .left) _ (closing .closes .ensures) _ (fault .fault .ensures) (fine .if2 .left)
+
+lines-less : tie.Need-lines-less Inv-losses μ-losses Inv-lines μ-lines
+lines-less c =
+    let midway = c .before .before .before .before .before .before in
+    let headed = midway .before .before .before .before .before .before .before .before .before .before in
+    let line = headed .before in
+    let tested = line .before in
+    let lines = tested .before in
+    law.less-ahead _ _ _ _ _ _ _ _ _ _ _ _ (lines .lines .inv) _ (line .end .ensures .0)
+    (tested .lines-test .taken) (line .end .ensures .2) (headed .if1 .left) (line .end .ensures .1)
+
+lines-again : tie.Need-lines-again Inv-losses μ-losses Inv-lines μ-lines
+lines-again c =
+    let quiet = c .before .before in
+    let fine = quiet .before .before .before in
+    let fault = fine .before in
+    let closing = fault .before in
+    let ended = closing .before in
+    let listed = ended .before in
+    let headed = listed .before .before .before .before .before .before .before in
+    let line = headed .before in
+    let tested = line .before in
+    let lines = tested .before in
+    law.goes-on-quiet _ _ _ _ _ _ _ _ _ _ _ _ (lines .lines .inv) _ (line .end .ensures .0)
+    (tested .lines-test .taken) (line .end .ensures .2) (headed .if1 .left) _ _ _ _ _ _ (listed .losses .inv)
+    (ended .losses-test .left) _ (closing .closes .ensures) _ (fault .fault .ensures) (fine .if2 .left)
+    (quiet .before .before .if3 .taken) _ _ (quiet .keep-quiet .ensures) (quiet .keep-quiet .kept .0)
+
 mul-losses : tie.Need-mul-losses Inv-losses μ-losses Inv-lines μ-lines
 mul-losses c = search needs
 
 array-share-prefix-losses :
     tie.Need-array-share-prefix-losses Inv-losses μ-losses Inv-lines μ-lines
 array-share-prefix-losses c =
-    let fault = c .before in
+    let fine = c .before in
+    let fault = fine .before in
     let closing = fault .before in
     let ended = closing .before in
     let listed = ended .before in
@@ -216,11 +259,11 @@ array-share-prefix-losses c =
     let lines = tested .before in
     law.three-inside _ _ _ _ _ _ _ _ _ _ _ _ (lines .lines .inv) _ (line .end .ensures .0)
     (tested .lines-test .taken) (line .end .ensures .2) (headed .if1 .left) _ _ _ _ _ _ (listed .losses .inv)
-    (ended .losses-test .left) _ (closing .closes .ensures) _ (fault .fault .ensures) (c .if2 .left)
+    (ended .losses-test .left) _ (closing .closes .ensures) _ (fault .fault .ensures) (fine .if2 .left)
 
 slice-aggregate-book : tie.Need-slice-aggregate-book Inv-losses μ-losses Inv-lines μ-lines
 slice-aggregate-book c =
-    let fine = c .before in
+    let fine = c .before .before in
     let fault = fine .before in
     let closing = fault .before in
     let ended = closing .before in
@@ -235,7 +278,7 @@ slice-aggregate-book c =
 
 book-requires : tie.Need-book-requires Inv-losses μ-losses Inv-lines μ-lines
 book-requires c κs =
-    let fine = c .before .before .before in
+    let fine = c .before .before .before .before in
     let fault = fine .before in
     let closing = fault .before in
     let ended = closing .before in
@@ -248,9 +291,9 @@ book-requires c κs =
     (tested .lines-test .taken) (line .end .ensures .2) (headed .if1 .left) _ _ _ _ _ _ (listed .losses .inv)
     (ended .losses-test .left) _ (closing .closes .ensures) _ (fault .fault .ensures) (fine .if2 .left)
 
-lines-less : tie.Need-lines-less Inv-losses μ-losses Inv-lines μ-lines
-lines-less c =
-    let midway = c .before .before .before .before .before .before .before .before .before in
+lines-less-2 : tie.Need-lines-less-2 Inv-losses μ-losses Inv-lines μ-lines
+lines-less-2 c =
+    let midway = c .before .before .before .before .before .before .before .before .before .before in
     let headed = midway .before .before .before .before .before .before .before .before .before .before in
     let line = headed .before in
     let tested = line .before in
@@ -258,10 +301,10 @@ lines-less c =
     law.less-ahead _ _ _ _ _ _ _ _ _ _ _ _ (lines .lines .inv) _ (line .end .ensures .0)
     (tested .lines-test .taken) (line .end .ensures .2) (headed .if1 .left) (line .end .ensures .1)
 
-lines-again : tie.Need-lines-again Inv-losses μ-losses Inv-lines μ-lines
-lines-again c =
+lines-again-2 : tie.Need-lines-again-2 Inv-losses μ-losses Inv-lines μ-lines
+lines-again-2 c =
     let booked = c .before .before .before .before in
-    let fine = booked .before .before .before .before in
+    let fine = booked .before .before .before .before .before in
     let fault = fine .before in
     let closing = fault .before in
     let ended = closing .before in
@@ -287,7 +330,7 @@ same-length-8 c = search law.cessions-same
 returns-4 : tie.Need-returns-4 Inv-losses μ-losses Inv-lines μ-lines
 returns-4 c =
     ⊎-elim
-    (λ w. law.not-both (c .before .if3 .taken) (w .0 .left))
+    (λ w. law.not-both (c .before .if4 .taken) (w .0 .left))
     (λ w.
     law.no-loss _ _ _ _ _ _ _ _ _ _ _ _ (c .before .before .before .lines .inv) _ (w .1 .ensures .0) (w .0 .taken)
     (w .1 .ensures .2) (w .2 .left) _ _ _ _ _ _ (w .9 .inv) (w .10 .taken) _ (w .11 .ensures) _
@@ -353,12 +396,15 @@ pass-spec =
     same-length-6
     returns-3
     add-at
+    keep-quiet-requires
+    lines-less
+    lines-again
     mul-losses
     array-share-prefix-losses
     slice-aggregate-book
     book-requires
-    lines-less
-    lines-again
+    lines-less-2
+    lines-again-2
     refused-requires-4
     same-length-7
     same-length-8

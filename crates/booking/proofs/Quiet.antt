@@ -1,0 +1,78 @@
+-- An event without losses leaves the layers and the totals as they are.
+-- Assumes nothing.
+use mathlib.Core.Path.{_≡_, refl, sym, ap, _∙_, subst}
+use mathlib.Core.List.{List, [], _∷_}
+use Prim.Native.Nat.{ℕ, _+_, _-_, zero-le}
+use native.Mathlib.Omega.{arith}
+use Rattle.text.specs.Buffer.{Put}
+use Rattle.treaty.specs.declared.Treaty.{Treaty}
+use Rattle.layer.specs.declared.record.Layer.{Layer}
+use Rattle.layer.specs.Tier.{layersAfter, recoveriesBy, chargesBy, layersOf}
+use Rattle.layer.proofs.Unreached.{layers-unreached, recoveries-unreached, charges-unreached, unreached-from}
+use Rattle.layer.proofs.Unreached.{From, Unreached}
+use Rattle.events.specs.Event.{Event}
+use Rattle.year.specs.declared.Amounts.{Amounts}
+use Rattle.year.specs.Event.{Year, subjectOf, eventAfter, eventAmounts}
+use Rattle.year.specs.Statement.{added, eventNumbers}
+use Rattle.booking.specs.declared.progress.Progress.{Progress}
+use Rattle.booking.specs.Records.{yearIn, SoundRecords}
+use Rattle.booking.specs.Progress.{Booked, quietNumbers}
+
+-- no amounts
+abbrev none : Amounts
+none = record { gross = 0; ceded = 0; risk = 0; cat = 0; net = 0; premium = 0 }
+
+-- a subject of 0 reaches no layer
+from-zero : (ls : List Layer) → From 0 ls
+from-zero [] = tt
+from-zero (y ∷ ys) = (zero-le, from-zero ys)
+
+module _ (ts : List Treaty) (p : Progress) (sound : SoundRecords (p .records)) (day : ℕ) where
+  abbrev quiet : Event
+  quiet = record { day = day; losses = [] }
+
+  abbrev cats : List Layer
+  cats = layersOf (p .records .cat)
+
+  reached : Unreached (0 ∷ []) cats
+  reached = unreached-from (0 ∷ []) 0 (zero-le, tt) cats (from-zero cats)
+
+  year-same : yearIn (p .records) ≡ eventAfter ts (yearIn (p .records)) quiet
+  unfolding subjectOf
+  year-same =
+      let cat = sym (layers-unreached (0 ∷ []) cats (sound .cat .each) reached) in
+      λ i. record { risk = layersOf (p .records .risk); cat = cat i }
+
+  amounts-none : none ≡ eventAmounts ts (yearIn (p .records)) quiet
+  unfolding subjectOf
+  amounts-none =
+      let cat : 0 ≡ recoveriesBy 0 cats = omega (arith, recoveries-unreached (0 ∷ []) cats (sound .cat .each) reached) in
+      let charged : 0 ≡ 0 + chargesBy 0 cats =
+      omega (arith, charges-unreached (0 ∷ []) cats (sound .cat .each) reached) in
+      λ i. record { gross = 0; ceded = 0; risk = 0; cat = cat i; net = 0 - cat i; premium = charged i }
+
+  total-same : p .total ≡ added (p .total ∷ none ∷ [])
+  total-same i = record {
+    gross = alone (p .total .gross) i;
+    ceded = alone (p .total .ceded) i;
+    risk = alone (p .total .risk) i;
+    cat = alone (p .total .cat) i;
+    net = alone (p .total .net) i;
+    premium = alone (p .total .premium) i;
+  }
+    where
+      alone : (m : ℕ) → m ≡ m + (0 + 0)
+      alone m = omega arith
+
+  pub quiet-booked : (next : ℕ) (d d′ cs : List ℕ) → Put d (p .kept) (quietNumbers day) d′ next
+      → Booked ts p quiet d d′ cs cs (record { records = p .records; day = day; total = p .total; kept = next })
+  quiet-booked next d d′ cs put = record {
+    year = year-same;
+    sound = sound;
+    day = refl;
+    total = total-same ∙ ap (λ (b : Amounts). added (p .total ∷ b ∷ [])) amounts-none;
+    kept =
+        subst (λ (b : Amounts). Put d (p .kept) (eventNumbers (record { day = day; amounts = b })) d′ next)
+        amounts-none put;
+    cessions = refl;
+  }
