@@ -1,14 +1,11 @@
 -- Document 01, Events and statement: the event form, read in its parts. What reading a part of a line answers.
 -- Assumes nothing.
-use mathlib.Core.Bool.{true, false}
-use mathlib.Core.List.{List, [], _∷_, _++_}
+use mathlib.Core.List.{List, [], _∷_}
 use mathlib.Core.Option.{Option, none, some}
-use mathlib.Core.Path.{_≡_}
-use Prim.Native.Nat.{ℕ, _-_, _≤_}
+use Prim.Native.Nat.{ℕ, _-_}
 use lib.ListN.{length, drop, getD}
-use Rattle.text.specs.Template.{capital, matched}
-use Rattle.text.specs.declared.number.Number.{Number}
-use Rattle.text.specs.declared.number.Number.the-variants.{Value, Nothing}
+use Rattle.text.specs.Bytes.{bytes}
+use Rattle.text.specs.Template.{matched}
 use Rattle.events.specs.declared.form.Head.{Head}
 use Rattle.events.specs.declared.form.Head.the-variants.{Day, NoEvent}
 use Rattle.events.specs.declared.form.LossForm.{LossForm}
@@ -33,11 +30,6 @@ lossFormFrom n (some p) = form.Loss (lossFrom (p .0)) (n - length (p .1))
 unfoldable pub lossAt : List ℕ → (at : ℕ) → LossForm
 lossAt s at = lossFormFrom (length s) (matched [] lossText (drop at s))
 
--- r is the number at a place of the text s, where the byte b stands after it, and the place after that: so a form that
--- has a number's place and b there is read
-pub record Field (s : List ℕ) (at b : ℕ) (r : Number) : Type 0 where
-  pub within : (v next : ℕ) → r ≡ Value v next → next ≤ length s
-  pub read : (v next : ℕ) → r ≡ Value v next → (c : ℕ) (t ns : List ℕ) → true ≡ capital c → false ≡ capital b
-      → matched ns (c ∷ b ∷ t) (drop at s) ≡ matched (ns ++ (v ∷ [])) t (drop next s)
-  pub missing : r ≡ Nothing → (c : ℕ) (t ns : List ℕ) → true ≡ capital c → false ≡ capital b
-      → matched ns (c ∷ b ∷ t) (drop at s) ≡ none
+-- what stands at a place of a line after a treaty's number t and a space: the rest of a loss form
+unfoldable pub amountsAt : List ℕ → (t at : ℕ) → LossForm
+amountsAt s t at = lossFormFrom (length s) (matched (t ∷ []) (bytes "E G)") (drop at s))

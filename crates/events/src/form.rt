@@ -2,8 +2,9 @@
 ghost use mathlib.Core.Path.{_≡_};
 ghost use Prim.Native.Nat.{_+_, _≤_};
 ghost use lib.ListN.{length, drop};
+ghost use Rattle.text.specs.Number.{numberAt};
 ghost use Rattle.events.specs.Event.{closes};
-ghost use Rattle.events.specs.Form.{headOf, lossAt, Field};
+ghost use Rattle.events.specs.Form.{headOf, lossAt, amountsAt};
 use text::line;
 use text::number;
 use text::number::Number;
@@ -37,41 +38,61 @@ pub fn read_head(line: &[u8]) -> Head
     if word::seven(line, 0) != EVENT {
         return Head::NoEvent;
     }
-    let Number::Value(day, next) = number::read(line, 7) else {
+    let Number::Value(day, next) = number::read_short(line, 7) else {
         return Head::NoEvent;
     };
     Head::Day(day, next)
 }
 
-// Reads a number and the byte that must stand after it, and gives the place after that.
-fn read_field(line: &[u8], at: usize, end: u8) -> Number
-    requires { ⌜ at ≤ length (now line) ⌝ }
-    ensures { λ r. ⌜ Field (now (line .entry)) at end r ⌝ }
-{
-    let Number::Value(value, next) = number::read(line, at) else {
-        return Number::Nothing;
-    };
-    if line::stands(line, next, end) {
-        return Number::Value(value, next + 1);
-    }
-    Number::Nothing
-}
-
-// Reads a treaty's number and the space after it, as `read_field` does: it mostly has one digit.
+// Reads the number of a treaty: mostly one digit, before a space.
 fn read_treaty(line: &[u8], at: usize) -> Number
     requires { ⌜ at ≤ length (now line) ⌝ }
-    ensures { λ r. ⌜ Field (now (line .entry)) at 32 r ⌝ }
+    ensures { λ r. ⌜ r ≡ numberAt (now (line .entry)) at ⌝ }
 {
     if 2 <= line.len() - at {
         let treaty = number::digit(line[at]);
         let after = line[at + 1];
         if treaty < 10 {
             if after == b' ' {
-                return Number::Value(treaty, at + 2);
+                return Number::Value(treaty, at + 1);
             }
         }
     }
-    read_field(line, at, b' ')
+    number::read_short(line, at)
+}
+
+// Reads a loss form from its second number on: the maximum and a space, then the amount and the bracket. The one call
+// that reads both numbers is compiled in its place.
+fn read_amounts(line: &[u8], treaty: u64, at: usize) -> LossForm
+    requires { ⌜ at ≤ length (now line) ⌝ }
+    ensures { λ r. ⌜ r ≡ amountsAt (now (line .entry)) treaty at ⌝ }
+{
+    let mut maximum: u64 = 0;
+    let mut place = at;
+    let mut last = false;
+    loop {
+        let Number::Value(value, next) = number::read(line, place) else {
+            return LossForm::NoLoss;
+        };
+        if last {
+            if line::stands(line, next, b')') {
+                let loss = Loss {
+                    treaty,
+                    maximum,
+                    amount: value,
+                };
+                return LossForm::Loss(loss, next + 1);
+            }
+            return LossForm::NoLoss;
+        }
+        if line::stands(line, next, b' ') {
+            maximum = value;
+            place = next + 1;
+            last = true;
+        } else {
+            return LossForm::NoLoss;
+        }
+    }
 }
 
 // Reads a loss form: seven bytes at once, and its three numbers.
@@ -85,21 +106,13 @@ pub fn read_loss(line: &[u8], at: usize) -> LossForm
     if word::seven(line, at) != LOSS {
         return LossForm::NoLoss;
     }
-    let Number::Value(treaty, second) = read_treaty(line, at + 7) else {
+    let Number::Value(treaty, end) = read_treaty(line, at + 7) else {
         return LossForm::NoLoss;
     };
-    let Number::Value(maximum, third) = read_field(line, second, b' ') else {
-        return LossForm::NoLoss;
-    };
-    let Number::Value(amount, next) = read_field(line, third, b')') else {
-        return LossForm::NoLoss;
-    };
-    let loss = Loss {
-        treaty,
-        maximum,
-        amount,
-    };
-    LossForm::Loss(loss, next)
+    if line::stands(line, end, b' ') {
+        return read_amounts(line, treaty, end + 1);
+    }
+    LossForm::NoLoss
 }
 
 // Whether the bracket that ends a line is all that is left of it, where at most one byte is.

@@ -10,7 +10,8 @@ use Rattle.lists.specs.Sums.{sumOf, total}
 use Rattle.lists.proofs.Sums.{sum-map, sum-add, sum-zero}
 use Rattle.layer.specs.declared.record.Layer.{Layer}
 use Rattle.layer.specs.declared.record.Sums.{Sums}
-use Rattle.layer.specs.Layer.{broughtBy, capOf, cutAtCap, layerOf, layerAfter, recoveredSince, chargedSince, sumsOf}
+use Rattle.layer.specs.Layer.{broughtBy, capOf, cutAtCap, layerOf, layerAfter}
+use Rattle.layer.specs.Layer.{recoveredSince, chargedSince, sumsOf}
 use Rattle.layer.specs.Layer.{recoveriesOf, chargesOf, afterSubject, recoveryBy, chargeBy}
 use Rattle.layer.specs.Layer.{borneSince, borneBy, borneThrough}
 use Rattle.layer.specs.Tier.{layersAfter, layersThrough, recoveriesThrough, chargesThrough}
@@ -66,7 +67,8 @@ module _ (xs : List ℕ) (y : Layer) (s : Sound y) where
   at-once = layerAfter (total (lossesOf xs y)) y
 
   -- the single recoveries and premiums add up to those of all the losses at once
-  pub borne-at-once : (t : Sums) → borneThrough xs t y ≡ borneSince y t (layerAfter (sumOf (broughtBy (y .terms)) xs) y)
+  pub borne-at-once : (t : Sums)
+      → borneThrough xs t y ≡ borneSince y t (layerAfter (sumOf (broughtBy (y .terms)) xs) y)
   borne-at-once t =
       let recovered : recoveredEach xs y ≡ recoveredSince y at-once =
       omega (arith, recoveries-telescope y (s .spent) (lossesOf xs y)) in

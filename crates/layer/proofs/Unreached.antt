@@ -1,16 +1,20 @@
 -- A tier that no amount reaches stays as it is, and recovers and charges nothing.
 -- Assumes nothing.
-use mathlib.Core.Path.{_≡_, refl, sym, ap, _∙_}
-use mathlib.Core.Bool.{true, false}
+use mathlib.Core.Path.{_≡_, refl, sym, _∙_}
+use mathlib.Core.Bool.{Bool, true, false}
 use mathlib.Core.List.{List, [], _∷_, _++_, map}
 use Prim.Native.Nat.{ℕ, zero, suc, _+_, _≤_, _<_}
 use native.Mathlib.Nat.{le-refl}
 use native.Mathlib.Numerals.{add-one}
 use native.Mathlib.Omega.{arith}
+use borrow.Author.Tests.{le-leb, lt-leb, leb-true}
+use lib.Dec.{leb}
 use lib.ListN.{length, take, drop, getD, take-append-drop, drop-of-length-le}
 use lib.Seq.{drop-cons}
 use Rattle.lists.specs.Sums.{sumOf}
 use Rattle.lists.specs.Each.{Each}
+use Rattle.lists.specs.Chains.{every}
+use Rattle.lists.proofs.Each.{each-every}
 use Rattle.layer.specs.declared.terms.Terms.{Terms}
 use Rattle.layer.specs.declared.record.Layer.{Layer}
 use Rattle.layer.specs.declared.record.Sums.{Sums}
@@ -18,37 +22,42 @@ use Rattle.layer.specs.declared.tier.Tier.{Tier}
 use Rattle.layer.specs.Layer.{broughtBy, sumsOf}
 use Rattle.layer.specs.Tier.{layersThrough, recoveriesThrough, chargesThrough, layersOf, tierThrough}
 use Rattle.layer.specs.Ranges.{Sound, Rising, SoundTier}
-use Rattle.layer.proofs.Through.{afterEach, recoveredEach, chargedEach, layers-each, recoveries-each, charges-each}
+use Rattle.layer.proofs.Through.{afterEach, recoveredEach, chargedEach}
+use Rattle.layer.proofs.Through.{layers-each, recoveries-each, charges-each}
 use Rattle.layer.proofs.Through.{after-nothing, recovered-nothing, charged-nothing}
 
--- none of the amounts xs is above a
-abbrev pub UpTo : ℕ → List ℕ → Type 0
+-- no amount is above a
+abbrev UpTo : ℕ → List ℕ → Type 0
 UpTo a xs = Each (λ (x : ℕ). x ≤ a) xs
+
+-- the test of each amount
+abbrev upTo : ℕ → List ℕ → Bool
+upTo a xs = every (λ (x : ℕ). leb x a) xs
 
 -- each of the layers is attached at e or above
 abbrev pub From : ℕ → List Layer → Type 0
 From e ls = Each (λ (y : Layer). e ≤ y .terms .attachment) ls
 
--- none of the first i amounts is above a: those ahead decide
-pub record Below (a : ℕ) (xs : List ℕ) (i : ℕ) : Type 0 where
+-- the first i amounts pass: those ahead decide
+pub record Looked (a : ℕ) (xs : List ℕ) (i : ℕ) : Type 0 where
   pub within : i ≤ length xs
-  pub rest : UpTo a (drop i xs) → UpTo a xs
+  pub rest : upTo a xs ≡ upTo a (drop i xs)
 
-pub none-looked-at : (a : ℕ) (xs : List ℕ) → Below a xs 0
-none-looked-at a xs = record { within = omega arith; rest = λ u. u }
+pub none-looked-at : (a : ℕ) (xs : List ℕ) → Looked a xs 0
+none-looked-at a xs = record { within = omega arith; rest = refl }
 
-module _ (a : ℕ) (xs : List ℕ) (i : ℕ) (h : Below a xs i) where
-  pub one-below : (d : ℕ) → i < length xs → getD xs i d ≤ a → Below a xs (i + 1)
+module _ (a : ℕ) (xs : List ℕ) (i : ℕ) (h : Looked a xs i) where
+  pub one-below : (d : ℕ) → i < length xs → getD xs i d ≤ a → Looked a xs (i + 1)
   one-below d more le = record {
     within = omega arith;
-    rest = λ u. h .rest (rw (drop-cons xs i d more) (le, rw (add-one i) at u));
+    rest = h .rest ∙ rw (drop-cons xs i d more, add-one i) (simp (le-leb _ _ le));
   }
 
-  pub all-below : length xs ≤ i → UpTo a xs
-  all-below end = h .rest (rw (drop-of-length-le xs end) tt)
+  pub one-above : (d : ℕ) → i < length xs → a < getD xs i d → false ≡ upTo a xs
+  one-above d more lt = sym (h .rest ∙ rw (drop-cons xs i d more) (simp (lt-leb _ _ lt)))
 
-pub not-false : {A : Type 0} → true ≡ false → A
-not-false e = absurd (let z : _≡_ {A = ℕ} 0 1 = cc in omega arith)
+  pub all-below : length xs ≤ i → true ≡ upTo a xs
+  all-below end = sym (h .rest ∙ rw (drop-of-length-le xs end))
 
 nothing-brought : (t : Terms) (a : ℕ) (xs : List ℕ) → UpTo a xs → a ≤ t .attachment → sumOf (broughtBy t) xs ≡ 0
 nothing-brought t a [] u h = refl
@@ -60,7 +69,7 @@ rising-from a e [] h r = tt
 rising-from a e (y ∷ ys) h r =
     (omega (arith, r .0), rising-from a (y .terms .attachment + y .terms .limit) ys (omega (arith, r .0)) (r .1))
 
-pub from-first : (n : ℕ) (l : List Layer) (d : Layer) → Rising 0 (take n l)
+from-first : (n : ℕ) (l : List Layer) (d : Layer) → Rising 0 (take n l)
     → From (getD l 0 d .terms .attachment) (take n l)
 from-first zero l d r = tt
 from-first (suc n) [] d r = tt
@@ -73,6 +82,9 @@ module _ (xs : List ℕ) where
   -- the amounts bring none of the layers a loss
   abbrev pub Unreached : List Layer → Type 0
   Unreached ls = Each (λ (y : Layer). sumOf (broughtBy (y .terms)) xs ≡ 0) ls
+
+  all-up-to : (a : ℕ) → upTo a xs ≡ true → UpTo a xs
+  all-up-to a e = each-every (λ (x : ℕ). x ≤ a) (λ (x : ℕ). leb x a) (λ x h. leb-true x a h) xs e
 
   pub unreached-from : (a : ℕ) → UpTo a xs → (ls : List Layer) → From a ls → Unreached ls
   unreached-from a u [] f = tt
@@ -120,7 +132,8 @@ module _ (xs : List ℕ) where
     pub tier-empty : t .count ≡ 0 → record { tier = t; sums = s } ≡ tierThrough xs t
     tier-empty e = tier-stays (rw e tt)
 
-    pub tier-unreached : (d : Layer) → UpTo (getD (t .layers) 0 d .terms .attachment) xs
+    pub tier-unreached : (d : Layer) (f : Bool) → f ≡ upTo (getD (t .layers) 0 d .terms .attachment) xs → f ≡ true
         → record { tier = t; sums = s } ≡ tierThrough xs t
-    tier-unreached d u =
-        tier-stays (unreached-from _ u (layersOf t) (from-first (t .count) (t .layers) d (sound .rising)))
+    tier-unreached d f e y =
+        let from = from-first (t .count) (t .layers) d (sound .rising) in
+        tier-stays (unreached-from _ (all-up-to _ (sym e ∙ y)) (layersOf t) from)

@@ -1,10 +1,10 @@
 // The layers of one tier: each looks at the same subject amounts, and none sees another's remainder. They are lent as
 // a list of records, each brought up to date in its place.
 ghost use mathlib.Core.Path.{_≡_};
-ghost use mathlib.Core.Bool.{false};
 ghost use Prim.Native.Nat.{ℕ, _≤_};
+ghost use lib.Dec.{leb};
 ghost use lib.ListN.{take};
-ghost use Rattle.lists.specs.Each.{Each};
+ghost use Rattle.lists.specs.Chains.{every};
 ghost use Rattle.layer.specs.Tier.{layersThrough, sumsThrough, tierAfter, tierThrough};
 ghost use Rattle.layer.specs.Ranges.{SoundLayers, AmpleForTier, SoundTier};
 use crate::amount::Placed;
@@ -57,20 +57,20 @@ fn bear_first(layers: [Layer; 8], count: usize, subjects: &[u64], sums: Sums) ->
     }
 }
 
-// Whether one of some amounts is above an attachment.
-fn reach(subjects: &[u64], attachment: u64) -> bool
-    ensures { λ r. ⌜ (r ≡ false → Each (λ (x : ℕ). x ≤ attachment) (now (subjects .entry))) ⌝ }
+// Whether no amount is above an attachment.
+fn none_above(subjects: &[u64], attachment: u64) -> bool
+    ensures { λ r. ⌜ r ≡ every (λ (x : ℕ). leb x attachment) (now (subjects .entry)) ⌝ }
 {
     for i in 0..subjects.len() {
         if attachment < subjects[i] {
-            return true;
+            return false;
         }
     }
-    false
+    true
 }
 
 impl Tier {
-    // The tier after amounts, each in turn the subject of every layer. A tier that none of them reaches stays as it is.
+    // The tier after amounts, each in turn the subject of every layer. A tier that no amount reaches stays as it is.
     pub fn bear(self, subjects: &[u64]) -> TierBorne
         requires { ⌜ SoundTier self ⌝ }
         ensures { λ r. ⌜ r ≡ tierThrough (now (subjects .entry)) self ⌝ }
@@ -85,13 +85,13 @@ impl Tier {
                 sums: none,
             };
         }
-        if reach(subjects, self.layers[0].terms.attachment) {
-            let layers = self.layers;
-            return bear_first(layers, self.count, subjects, none);
+        if none_above(subjects, self.layers[0].terms.attachment) {
+            return TierBorne {
+                tier: self,
+                sums: none,
+            };
         }
-        TierBorne {
-            tier: self,
-            sums: none,
-        }
+        let layers = self.layers;
+        bear_first(layers, self.count, subjects, none)
     }
 }

@@ -36,10 +36,12 @@ filled-before (b ∷ t) ns s g z =
     (λ e. simp (filled, ← e) (printed-bytes _ _ (filled-before t (drop 1 ns) s (g .1) z)))
     (λ e. simp (filled, ← e) (g .0, filled-before t ns s (g .1) z))
 
--- the test computes for a template that is written out
+-- the test computes for bytes that are written out
+pub all-bytes : (t : List ℕ) → every (λ (b : ℕ). ltb b 256) t ≡ true → Each Byte t
+all-bytes t e = each-every Byte (λ (b : ℕ). ltb b 256) (λ b h. ltb-true b 256 h) t e
+
 pub filled-bytes : (t ns : List ℕ) → every (λ (b : ℕ). ltb b 256) t ≡ true → Each Byte (filled t ns [])
-filled-bytes t ns e =
-    filled-before t ns [] (each-every Byte (λ (b : ℕ). ltb b 256) (λ b h. ltb-true b 256 h) t e) tt
+filled-bytes t ns e = filled-before t ns [] (all-bytes t e) tt
 
 -- lines put together
 pub joined-bytes : (ls : List (List ℕ)) → Each (Each Byte) ls → Each Byte (joined ls)

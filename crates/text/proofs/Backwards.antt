@@ -56,13 +56,23 @@ none-back n d at r e h = record { place = rw e; inside = omega arith; size = ref
 module _ (n : ℕ) (d : List ℕ) (at : ℕ) (d′ : List ℕ) (v i : ℕ) (g : Backward n d at d′ v i) where
   -- the last of the digits left
   module _ (h : 10 ≤ v) where
+    one-before : i ≡ at + length (digits (v / 10)) + 1
+    one-before =
+        omega (
+          arith,
+          g .place,
+          ap length (digits-ten v h),
+          length-append (digits (v / 10)) ((48 + v % 10) ∷ []),
+        )
+
     before-one : i - 1 ≡ at + length (digits (v / 10))
-    before-one = omega (arith, g .place, ap length (digits-ten v h), length-append (digits (v / 10)) ((48 + v % 10) ∷ []))
+    before-one = omega (arith, one-before)
 
     pub one-inside : 1 ≤ i
-    one-inside = omega (arith, before-one, g .place, ap length (digits-ten v h), length-append (digits (v / 10)) ((48 + v % 10) ∷ []))
+    one-inside = omega (arith, one-before)
 
-    pub one-back : {d″ : List ℕ} {r : ℕ} → Put d′ (i - 1) ((48 + v % 10) ∷ []) d″ r → Backward n d at d″ (v / 10) (i - 1)
+    pub one-back : {d″ : List ℕ} {r : ℕ} → Put d′ (i - 1) ((48 + v % 10) ∷ []) d″ r
+        → Backward n d at d″ (v / 10) (i - 1)
     one-back p = record {
       place = before-one;
       inside = omega (arith, g .inside);
@@ -74,13 +84,23 @@ module _ (n : ℕ) (d : List ℕ) (at : ℕ) (d′ : List ℕ) (v i : ℕ) (g : 
 
   -- the last two
   module _ (h : 100 ≤ v) where
+    two-before : i ≡ at + length (digits (v / 100)) + 2
+    two-before =
+        omega (
+          arith,
+          g .place,
+          ap length (digits-hundred v h),
+          length-append (digits (v / 100)) (twoDigits (v % 100)),
+        )
+
     before-two : i - 2 ≡ at + length (digits (v / 100))
-    before-two = omega (arith, g .place, ap length (digits-hundred v h), length-append (digits (v / 100)) (twoDigits (v % 100)))
+    before-two = omega (arith, two-before)
 
     pub two-inside : 2 ≤ i
-    two-inside = omega (arith, g .place, ap length (digits-hundred v h), length-append (digits (v / 100)) (twoDigits (v % 100)))
+    two-inside = omega (arith, two-before)
 
-    pub two-back : Backward n d at (set (set d′ (i - 2) (48 + v % 100 / 10)) (i - 2 + 1) (48 + v % 100 % 10)) (v / 100) (i - 2)
+    pub two-back : Backward n d at (set (set d′ (i - 2) (48 + v % 100 / 10)) (i - 2 + 1) (48 + v % 100 % 10))
+        (v / 100) (i - 2)
     two-back = record {
       place = before-two;
       inside = omega (arith, g .inside);

@@ -111,11 +111,13 @@ module _ (s : List ℕ) (v at : ℕ) where
   missing-on e = rw e
 
   -- and the other way round: what is read after them is what is read in all
-  pub on-from : (a : ℕ) (r : Number) → number (drop a s) ≡ readOn v (drop at s) → r ≡ numberOn s v at → r ≡ numberAt s a
+  pub on-from : (a : ℕ) (r : Number) → number (drop a s) ≡ readOn v (drop at s) → r ≡ numberOn s v at
+      → r ≡ numberAt s a
   unfolding numberOn numberAt
   on-from a r e q = q ∙ ap (numberOf (length s)) (sym e)
 
-  pub on-on : (w a : ℕ) (r : Number) → readOn w (drop a s) ≡ readOn v (drop at s) → r ≡ numberOn s v at → r ≡ numberOn s w a
+  pub on-on : (w a : ℕ) (r : Number) → readOn w (drop a s) ≡ readOn v (drop at s) → r ≡ numberOn s v at
+      → r ≡ numberOn s w a
   unfolding numberOn
   on-on w a r e q = q ∙ ap (numberOf (length s)) (sym e)
 

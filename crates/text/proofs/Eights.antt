@@ -14,23 +14,25 @@ use Rattle.text.proofs.Words.{next-byte, cut-byte}
 pub figures-lt : (d : ℕ → ℕ) (n : ℕ) → ((k : ℕ) → k < n → d k < 10) → figures d n < 10 ^ n
 unfolding figures
 figures-lt d zero l = lit< tt
-figures-lt d (suc n) l = rw (pow-suc 10 n) (omega (arith, figures-lt d n (λ k g. l k (omega arith)), l n (omega arith)))
-
--- the same figures make the same number
-pub figures-same : (d e : ℕ → ℕ) (n : ℕ) → ((k : ℕ) → k < n → d k ≡ e k) → figures d n ≡ figures e n
-unfolding figures
-figures-same d e zero q = refl
-figures-same d e (suc n) q =
-    ap₂ (λ (x y : ℕ). x * 10 + y) (figures-same d e n (λ k g. q k (omega arith))) (q n (omega arith))
+figures-lt d (suc n) l =
+    rw (pow-suc 10 n) (omega (arith, figures-lt d n (λ k g. l k (omega arith)), l n (omega arith)))
 
 -- a 0 before them changes nothing
-figures-front : (d e : ℕ → ℕ) (n : ℕ) → d 0 ≡ 0 → ((k : ℕ) → k < n → d (suc k) ≡ e k) → figures d (suc n) ≡ figures e n
+figures-front : (d e : ℕ → ℕ) (n : ℕ) → d 0 ≡ 0 → ((k : ℕ) → k < n → d (suc k) ≡ e k)
+    → figures d (suc n) ≡ figures e n
 unfolding figures
 figures-front d e zero z q = omega (arith, z)
 figures-front d e (suc n) z q =
     ap₂ (λ (x y : ℕ). x * 10 + y) (figures-front d e n z (λ k g. q k (omega arith))) (q n (omega arith))
 
--- every other byte of a word, two bytes at a time
+-- a word by its four lanes of two bytes, and by its eight bytes
+abbrev lanes : (a b c d : ℕ) → ℕ
+lanes a b c d = a + 65536 * (b + 65536 * (c + 65536 * d))
+
+abbrev eightBytes : (a b c d e f g h : ℕ) → ℕ
+eightBytes a b c d e f g h = lanes (a + 256 * b) (c + 256 * d) (e + 256 * f) (g + 256 * h)
+
+-- the lower byte of the lowest lane, above which the mask goes on
 lane : (p q r m : ℕ) → p < 256 → q < 256 → bitAnd (p + 256 * q + 65536 * r) (255 + 65536 * m) ≡ p + 65536 * bitAnd r m
 lane p q r m g h =
     ap₂ bitAnd left right
@@ -43,25 +45,30 @@ lane p q r m g h =
     right : 255 + 65536 * m ≡ m * 2 ^ 16 + 255
     right = omega arith
 
--- every other pair of bytes, likewise
-wide-lane : (p q r m : ℕ) → p < 65536 → q < 65536
-    → bitAnd (p + 65536 * q + 4294967296 * r) (65535 + 4294967296 * m) ≡ p + 4294967296 * bitAnd r m
-wide-lane p q r m g h =
+-- the lower byte of each lane
+low-bytes : (p q r u v w x y : ℕ) → p < 256 → q < 256 → r < 256 → u < 256 → v < 256 → w < 256 → x < 256
+    → bitAnd (eightBytes p q r u v w x y) 71777214294589695 ≡ lanes p r v x
+low-bytes p q r u v w x y lp lq lr lu lv lw lx =
+    lane p q (r + 256 * u + 65536 * (v + 256 * w + 65536 * (x + 256 * y))) 1095233372415 lp lq
+    ∙ ap (λ (n : ℕ). p + 65536 * n)
+    (lane r u (v + 256 * w + 65536 * (x + 256 * y)) 16711935 lr lu
+    ∙ ap (λ (n : ℕ). r + 65536 * n)
+    (lane v w (x + 256 * y) 255 lv lw
+    ∙ ap (λ (n : ℕ). v + 65536 * n) (and-mask (x + 256 * y) 8 ∙ omega arith)))
+
+-- the lower lane of each half
+low-lanes : (p q r u : ℕ) → p < 65536 → q < 65536 → r < 65536
+    → bitAnd (lanes p q r u) 281470681808895 ≡ p + 4294967296 * r
+low-lanes p q r u lp lq lr =
     ap₂ bitAnd left right
-    ∙ and-block 32 r m (p + 65536 * q) 65535 (omega arith) (lit< tt)
-    ∙ omega (arith, and-mask (p + 65536 * q) 16)
+    ∙ and-block 32 (r + 65536 * u) 65535 (p + 65536 * q) 65535 (omega arith) (lit< tt)
+    ∙ omega (arith, and-mask (p + 65536 * q) 16, and-mask (r + 65536 * u) 16)
   where
-    left : p + 65536 * q + 4294967296 * r ≡ r * 2 ^ 32 + (p + 65536 * q)
+    left : lanes p q r u ≡ (r + 65536 * u) * 2 ^ 32 + (p + 65536 * q)
     left = omega arith
 
-    right : 65535 + 4294967296 * m ≡ m * 2 ^ 32 + 65535
-    right = omega arith
-
-last-lane : (p q : ℕ) → p < 256 → bitAnd (p + 256 * q) 255 ≡ p
-last-lane p q g = and-mask (p + 256 * q) 8 ∙ omega arith
-
-last-wide-lane : (p q : ℕ) → p < 65536 → bitAnd (p + 65536 * q) 65535 ≡ p
-last-wide-lane p q g = and-mask (p + 65536 * q) 16 ∙ omega arith
+    right : 281470681808895 ≡ 65535 * 2 ^ 32 + 65535
+    right = refl
 
 -- eight figures in bytes are four of two figures, those two of four, and those one of eight
 abbrev pub pairs : ℕ → ℕ
@@ -79,31 +86,14 @@ pairs-le t = and-le-r (t * 10 + t / 256) 71777214294589695
 pub fours-le : (t : ℕ) → fours t ≤ 281470681808895
 fours-le t = and-le-r (t * 100 + t / 65536) 281470681808895
 
-module _ (a b c d e f g h t : ℕ) (la : a < 10) (lb : b < 10) (lc : c < 10) (ld : d < 10) (le : e < 10) (lf : f < 10) (lg : g < 10) (lh : h < 10)
-    (q : t ≡ a + 256 * b + 65536 * (c + 256 * d + 65536 * (e + 256 * f + 65536 * (g + 256 * h)))) where
-  pairs-sum : t * 10 + t / 256 ≡ (10 * a + b) + 256 * (10 * b + c) + 65536 * ((10 * c + d) + 256 * (10 * d + e) + 65536 * ((10 * e + f) + 256 * (10 * f + g) + 65536 * ((10 * g + h) + 256 * (10 * h))))
-  pairs-sum = omega arith
-
-  pairs-are : pairs t ≡ (10 * a + b) + 65536 * ((10 * c + d) + 65536 * ((10 * e + f) + 65536 * (10 * g + h)))
-  pairs-are =
-      ap (λ (n : ℕ). bitAnd n 71777214294589695) pairs-sum
-      ∙ lane (10 * a + b) (10 * b + c) ((10 * c + d) + 256 * (10 * d + e) + 65536 * ((10 * e + f) + 256 * (10 * f + g) + 65536 * ((10 * g + h) + 256 * (10 * h)))) 1095233372415 (omega arith) (omega arith)
-      ∙ ap (λ (n : ℕ). (10 * a + b) + 65536 * n)
-      (lane (10 * c + d) (10 * d + e) ((10 * e + f) + 256 * (10 * f + g) + 65536 * ((10 * g + h) + 256 * (10 * h))) 16711935 (omega arith) (omega arith)
-      ∙ ap (λ (n : ℕ). (10 * c + d) + 65536 * n)
-      (lane (10 * e + f) (10 * f + g) ((10 * g + h) + 256 * (10 * h)) 255 (omega arith) (omega arith)
-      ∙ ap (λ (n : ℕ). (10 * e + f) + 65536 * n)
-      (last-lane (10 * g + h) (10 * h) (omega arith))))
-
-module _ (a b c d t : ℕ) (la : a < 100) (lb : b < 100) (lc : c < 100) (ld : d < 100) (q : t ≡ a + 65536 * (b + 65536 * (c + 65536 * d))) where
-  fours-sum : t * 100 + t / 65536 ≡ (100 * a + b) + 65536 * (100 * b + c) + 4294967296 * ((100 * c + d) + 65536 * (100 * d))
-  fours-sum = omega arith
-
-  fours-are : fours t ≡ (100 * a + b) + 4294967296 * (100 * c + d)
-  fours-are =
-      ap (λ (n : ℕ). bitAnd n 281470681808895) fours-sum
-      ∙ wide-lane (100 * a + b) (100 * b + c) ((100 * c + d) + 65536 * (100 * d)) 65535 (omega arith) (omega arith)
-      ∙ ap (λ (n : ℕ). (100 * a + b) + 4294967296 * n) (last-wide-lane (100 * c + d) (100 * d) (omega arith))
+fours-are : (a b c d t : ℕ) → a < 100 → b < 100 → c < 100 → d < 100 → t ≡ lanes a b c d
+    → fours t ≡ (100 * a + b) + 4294967296 * (100 * c + d)
+fours-are a b c d t la lb lc ld q =
+    ap (λ (n : ℕ). bitAnd n 281470681808895) sum
+    ∙ low-lanes (100 * a + b) (100 * b + c) (100 * c + d) (100 * d) (omega arith) (omega arith) (omega arith)
+  where
+    sum : t * 100 + t / 65536 ≡ lanes (100 * a + b) (100 * b + c) (100 * c + d) (100 * d)
+    sum = omega arith
 
 eights-are : (a b t : ℕ) → a < 10000 → b < 10000 → t ≡ a + 4294967296 * b → eights t ≡ 10000 * a + b
 eights-are a b t la lb q = ap (λ (n : ℕ). n % 4294967296) sum ∙ rest (10000 * a + b) (10000 * b) (omega arith)
@@ -117,50 +107,64 @@ eights-are a b t la lb q = ap (λ (n : ℕ). n % 4294967296) sum ∙ rest (10000
     rest : (x y : ℕ) → x < 4294967296 → (x + 4294967296 * y) % 4294967296 ≡ x
     rest x y l = omega arith
 
+-- the word t has the figures a to h
+module _ (a b c d e f g h t : ℕ) (la : a < 10) (lb : b < 10) (lc : c < 10) (ld : d < 10) (le : e < 10) (lf : f < 10)
+    (lg : g < 10) (lh : h < 10) (q : t ≡ eightBytes a b c d e f g h) where
+  figures-le : t ≤ 651061555542690057
+  figures-le = omega arith
+
+  pairs-are : pairs t ≡ lanes (10 * a + b) (10 * c + d) (10 * e + f) (10 * g + h)
+  pairs-are =
+      ap (λ (n : ℕ). bitAnd n 71777214294589695) sum
+      ∙ low-bytes (10 * a + b) (10 * b + c) (10 * c + d) (10 * d + e) (10 * e + f) (10 * f + g) (10 * g + h) (10 * h)
+      (omega arith) (omega arith) (omega arith) (omega arith) (omega arith) (omega arith) (omega arith)
+    where
+      sum : t * 10 + t / 256
+          ≡ eightBytes (10 * a + b) (10 * b + c) (10 * c + d) (10 * d + e)
+          (10 * e + f) (10 * f + g) (10 * g + h) (10 * h)
+      sum = omega arith
+
+  eights-value : eights (fours (pairs t))
+      ≡ (((((((0 * 10 + a) * 10 + b) * 10 + c) * 10 + d) * 10 + e) * 10 + f) * 10 + g) * 10 + h
+  eights-value =
+      eights-are (100 * (10 * a + b) + (10 * c + d)) (100 * (10 * e + f) + (10 * g + h)) _ (omega arith) (omega arith)
+      (fours-are (10 * a + b) (10 * c + d) (10 * e + f) (10 * g + h) _
+      (omega arith) (omega arith) (omega arith) (omega arith) pairs-are)
+      ∙ omega arith
+
 -- a word is its bytes
-nested : (a b c d e f g h t₁ t₂ t₃ t₄ t₅ t₆ t₇ t : ℕ) → t ≡ a + 256 * t₁ → t₁ ≡ b + 256 * t₂ → t₂ ≡ c + 256 * t₃ → t₃ ≡ d + 256 * t₄
-    → t₄ ≡ e + 256 * t₅ → t₅ ≡ f + 256 * t₆ → t₆ ≡ g + 256 * t₇ → t₇ ≡ h
-    → t ≡ a + 256 * b + 65536 * (c + 256 * d + 65536 * (e + 256 * f + 65536 * (g + 256 * h)))
+nested : (a b c d e f g h t₁ t₂ t₃ t₄ t₅ t₆ t₇ t : ℕ) → t ≡ a + 256 * t₁ → t₁ ≡ b + 256 * t₂ → t₂ ≡ c + 256 * t₃
+    → t₃ ≡ d + 256 * t₄ → t₄ ≡ e + 256 * t₅ → t₅ ≡ f + 256 * t₆ → t₆ ≡ g + 256 * t₇ → t₇ ≡ h
+    → t ≡ eightBytes a b c d e f g h
 nested a b c d e f g h t₁ t₂ t₃ t₄ t₅ t₆ t₇ t e₀ e₁ e₂ e₃ e₄ e₅ e₆ e₇ = omega arith
 
-whole : (t : ℕ) → t < 2 ^ 64
-    → t ≡ byteOf t 0 + 256 * byteOf t 1 + 65536 * (byteOf t 2 + 256 * byteOf t 3 + 65536 * (byteOf t 4 + 256 * byteOf t 5 + 65536 * (byteOf t 6 + 256 * byteOf t 7)))
-whole t l =
-    nested _ _ _ _ _ _ _ _ (t / 2 ^ 8) (t / 2 ^ 16) (t / 2 ^ 24) (t / 2 ^ 32) (t / 2 ^ 40) (t / 2 ^ 48) (t / 2 ^ 56) t
-    (omega arith) (omega arith) (omega arith) (omega arith) (omega arith) (omega arith) (omega arith) (omega arith)
-
 module _ (t : ℕ) (l : t < 2 ^ 64) (z : Figures t 8) where
-  sum-bound : t ≤ 651061555542690057
-  sum-bound =
-      bound (byteOf t 0) (byteOf t 1) (byteOf t 2) (byteOf t 3) (byteOf t 4) (byteOf t 5) (byteOf t 6) (byteOf t 7)
+  abbrev byte : ℕ → ℕ
+  byte = byteOf t
+
+  whole : t ≡ eightBytes (byte 0) (byte 1) (byte 2) (byte 3) (byte 4) (byte 5) (byte 6) (byte 7)
+  whole =
+      nested _ _ _ _ _ _ _ _
+      (t / 2 ^ 8) (t / 2 ^ 16) (t / 2 ^ 24) (t / 2 ^ 32) (t / 2 ^ 40) (t / 2 ^ 48) (t / 2 ^ 56) t
+      (omega arith) (omega arith) (omega arith) (omega arith) (omega arith) (omega arith) (omega arith) (omega arith)
+
+  pub pairs-fit : t * 10 + t / 256 < 2 ^ 64
+  pairs-fit =
+      let le =
+      figures-le _ _ _ _ _ _ _ _ t
       (z .each 0 (lit< tt)) (z .each 1 (lit< tt)) (z .each 2 (lit< tt)) (z .each 3 (lit< tt))
-      (z .each 4 (lit< tt)) (z .each 5 (lit< tt)) (z .each 6 (lit< tt)) (z .each 7 (lit< tt)) (whole t l)
-    where
-      bound : (a b c d e f g h : ℕ) → a < 10 → b < 10 → c < 10 → d < 10 → e < 10 → f < 10 → g < 10 → h < 10
-          → t ≡ a + 256 * b + 65536 * (c + 256 * d + 65536 * (e + 256 * f + 65536 * (g + 256 * h))) → t ≤ 651061555542690057
-      bound a b c d e f g h la lb lc ld le lf lg lh q = omega arith
+      (z .each 4 (lit< tt)) (z .each 5 (lit< tt)) (z .each 6 (lit< tt)) (z .each 7 (lit< tt)) whole in
+      omega (arith, le)
 
   value : eights (fours (pairs t)) ≡ figures (byteOf t) 8
   unfolding figures
   value =
-      all (byteOf t 0) (byteOf t 1) (byteOf t 2) (byteOf t 3) (byteOf t 4) (byteOf t 5) (byteOf t 6) (byteOf t 7)
+      eights-value _ _ _ _ _ _ _ _ t
       (z .each 0 (lit< tt)) (z .each 1 (lit< tt)) (z .each 2 (lit< tt)) (z .each 3 (lit< tt))
-      (z .each 4 (lit< tt)) (z .each 5 (lit< tt)) (z .each 6 (lit< tt)) (z .each 7 (lit< tt)) (whole t l)
-    where
-      all : (a b c d e f g h : ℕ) → a < 10 → b < 10 → c < 10 → d < 10 → e < 10 → f < 10 → g < 10 → h < 10
-          → t ≡ a + 256 * b + 65536 * (c + 256 * d + 65536 * (e + 256 * f + 65536 * (g + 256 * h)))
-          → eights (fours (pairs t)) ≡ (((((((0 * 10 + a) * 10 + b) * 10 + c) * 10 + d) * 10 + e) * 10 + f) * 10 + g) * 10 + h
-      all a b c d e f g h la lb lc ld le lf lg lh q =
-          eights-are (100 * (10 * a + b) + (10 * c + d)) (100 * (10 * e + f) + (10 * g + h)) _ (omega arith) (omega arith)
-          (fours-are (10 * a + b) (10 * c + d) (10 * e + f) (10 * g + h) _ (omega arith) (omega arith) (omega arith) (omega arith)
-          (pairs-are a b c d e f g h t la lb lc ld le lf lg lh q))
-          ∙ omega arith
+      (z .each 4 (lit< tt)) (z .each 5 (lit< tt)) (z .each 6 (lit< tt)) (z .each 7 (lit< tt)) whole
 
   pub eight-value : (eights (fours (pairs t)) ≡ figures (byteOf t) 8) × (eights (fours (pairs t)) < 10 ^ 8)
   eight-value = (value, rw value (figures-lt (byteOf t) 8 (z .each)))
-
-  pub pairs-fit : t * 10 + t / 256 < 2 ^ 64
-  pairs-fit = omega (arith, sum-bound)
 
 -- a word moved up by a byte, what passes its end dropped
 abbrev up : ℕ → ℕ
@@ -210,20 +214,29 @@ raised t n zero l g z = rw (none, zero-add n) (record { all = z; same = refl })
   where
     none : moved t 0 ≡ t
     none = omega arith
-raised t n (suc m) l g z = rw (moved-more t m, suc-add m n) (raised-more t n (moved t m) (m + n) (omega arith) (raised t n m l (omega arith) z))
+raised t n (suc m) l g z =
+    rw (moved-more t m, suc-add m n)
+    (raised-more t n (moved t m) (m + n) (omega arith) (raised t n m l (omega arith) z))
+
+-- the word that `word::first` makes of t for its first n bytes
+abbrev raisedBy : (t n : ℕ) → ℕ
+raisedBy t n = t * 2 ^ (64 - 8 * n) % 18446744073709551616
 
 module _ (t n : ℕ) (l : t < 2 ^ 64) (g : n ≤ 8) (z : Figures t n) where
-  raised-eight : Raised t n (t * 2 ^ (64 - 8 * n) % 18446744073709551616) 8
-  raised-eight = subst (λ (k : ℕ). Raised t n (t * 2 ^ k % 18446744073709551616) 8) bits (subst (Raised t n (moved t (8 - n))) whole-word (raised t n (8 - n) l (omega arith) z))
+  raised-eight : Raised t n (raisedBy t n) 8
+  raised-eight =
+      subst (λ (k : ℕ). Raised t n (t * 2 ^ k % 18446744073709551616) 8) bits
+      (subst (Raised t n (moved t (8 - n))) all (raised t n (8 - n) l (omega arith) z))
     where
       bits : 8 * (8 - n) ≡ 64 - 8 * n
       bits = omega arith
 
-      whole-word : (8 - n) + n ≡ 8
-      whole-word = omega arith
+      all : (8 - n) + n ≡ 8
+      all = omega arith
 
-  pub first-figures : Figures (t * 2 ^ (64 - 8 * n) % 18446744073709551616) 8
+  pub first-figures : Figures (raisedBy t n) 8
   first-figures = raised-eight .all
 
-  pub first-value : (r : ℕ) → r ≡ figures (byteOf (t * 2 ^ (64 - 8 * n) % 18446744073709551616)) 8 → r ≡ figures (byteOf t) n
-  first-value r e = e ∙ raised-eight .same
+  pub first-value : (r : ℕ) → (r ≡ figures (byteOf (raisedBy t n)) 8) × (r < 10 ^ 8)
+      → (r ≡ figures (byteOf t) n) × (r < 10 ^ 8)
+  first-value r e = (e .0 ∙ raised-eight .same, e .1)

@@ -6,7 +6,6 @@ use mathlib.Core.Bool.{Bool, true, false}
 use mathlib.Core.List.{List, [], _∷_, _++_, map, append-assoc}
 use mathlib.Core.Option.{Option, none, some}
 use Prim.Native.Nat.{ℕ, suc, _+_, _-_, _%_, _≤_, _<_}
-use native.Mathlib.Numerals.{add-one}
 use native.Mathlib.Omega.{arith}
 use borrow.Author.Tests.{eq-eqb, ne-eqb}
 use lib.Dec.{eqb}
@@ -19,19 +18,38 @@ use Rattle.text.specs.Template.{capital, filled}
 use Rattle.text.specs.Lines.{beginning, linesOf, joined, upTo, placeOf, lineEnd}
 use Rattle.text.proofs.Printing.{by-digits, printed-one, printed-more}
 
--- the search for the next place e of a byte, at the place i of the text s
-module _ (byte : ℕ) (s : List ℕ) (i e : ℕ) (q : e ≡ placeOf byte s i) where
-  pub nowhere : length s ≤ i → i ≡ e
-  unfolding upTo
-  nowhere h = sym (q ∙ rw (drop-of-length-le s h) (omega arith))
+-- a byte is sought from the place `at` of the text s on: `left` bytes are left, and it stands in none before them
+pub record Seeking (byte : ℕ) (s : List ℕ) (at left : ℕ) : Type 0 where
+  pub within : left ≤ length s - at
+  pub ahead : placeOf byte s at ≡ placeOf byte s (length s - left)
 
-  pub here : i < length s → getD s i 0 ≡ byte → i ≡ e
-  unfolding upTo
-  here h b = sym (q ∙ rw (drop-cons s i 0 h) (simp (upTo, eq-eqb _ _ b) (omega arith)))
+pub none-sought : (byte : ℕ) (s : List ℕ) (at : ℕ) → at ≤ length s → Seeking byte s at (length s - at)
+none-sought byte s at h =
+    let e : length s - (length s - at) ≡ at = omega arith in
+    record { within = omega arith; ahead = rw e }
 
-  pub later : i < length s → (getD s i 0 ≡ byte → ⊥) → e ≡ placeOf byte s (i + 1)
+module _ (byte : ℕ) (s : List ℕ) (at left : ℕ) (h : at ≤ length s) (g : Seeking byte s at left) where
+  pub nowhere : left ≤ 0 → length s ≡ placeOf byte s at
   unfolding upTo
-  later h b = q ∙ rw (drop-cons s i 0 h, add-one i) (simp (upTo, ne-eqb _ _ b) (omega arith))
+  nowhere z = sym (g .ahead ∙ rw (drop-of-length-le s {i = length s - left} (omega arith)) (omega arith))
+
+  module _ (l : 0 < left) where
+    inside : length s - left < length s
+    inside = omega (arith, g .within)
+
+    pub here : getD s (length s - left) 0 ≡ byte → length s - left ≡ placeOf byte s at
+    unfolding upTo
+    here b = sym (g .ahead ∙ rw (drop-cons s (length s - left) 0 inside) (simp (upTo, eq-eqb _ _ b) (omega arith)))
+
+    pub later : (getD s (length s - left) 0 ≡ byte → ⊥) → Seeking byte s at (left - 1)
+    unfolding upTo
+    later b = record {
+      within = omega (arith, g .within);
+      ahead =
+          let next : length s - (left - 1) ≡ suc (length s - left) = omega (arith, inside) in
+          g .ahead
+          ∙ rw (next, drop-cons s (length s - left) 0 inside) (simp (upTo, ne-eqb _ _ b) (omega arith));
+    }
 
 up-to-feed-le : (s : List ℕ) → length (upTo 10 s) ≤ length s
 unfolding upTo

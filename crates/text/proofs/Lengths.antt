@@ -1,9 +1,9 @@
 -- How long a printed number and a printed template are at least and at most.
 -- Assumes nothing.
-use mathlib.Core.Path.{_≡_, refl, _∙_}
+use mathlib.Core.Path.{_≡_, refl, ap, _∙_}
 use mathlib.Core.List.{List, [], _∷_}
 use Prim.Native.Nat.{ℕ, zero, suc, _+_, _*_, _/_, _%_, _^_, _≤_, _<_}
-use native.Mathlib.Nat.{pow-suc, le-div-iff-mul-le, div-lt-iff-lt-mul}
+use native.Mathlib.Nat.{pow-suc, le-div-iff-mul-le, div-lt-iff-lt-mul, div-div-eq-div-mul}
 use native.Mathlib.Numerals.{add-one}
 use native.Mathlib.Omega.{arith}
 use lib.Dec.{lit<}
@@ -42,7 +42,7 @@ printed-length n s = rw (printed-append n [] s) (length-append (digits n) s)
 pub length-one : (n : ℕ) → n < 10 → length (digits n) ≡ 1
 length-one n h = rw (printed-one n [] h)
 
-pub length-more : (n : ℕ) → 10 ≤ n → length (digits n) ≡ length (digits (n / 10)) + 1
+length-more : (n : ℕ) → 10 ≤ n → length (digits n) ≡ length (digits (n / 10)) + 1
 length-more n h = rw (printed-more n [] h) (printed-length (n / 10) ((48 + n % 10) ∷ []))
 
 -- a number below 10 ^ (k + 1) has at most k + 1 digits
@@ -54,21 +54,24 @@ digits-length (suc k) n h =
     (λ l. omega (arith, length-one n l))
     (λ l. omega (arith, length-more n l, digits-length k (n / 10) tenth))
 
--- one of 10 ^ k or more has more than k
-digits-least : (k n : ℕ) → 10 ^ k ≤ n → k < length (digits n)
-digits-least zero n h = printed-long n []
-digits-least (suc k) n h =
-    let tenth : 10 ^ k ≤ n / 10 = le-div-iff-mul-le (lit< tt) .1 (rw pow-suc at h) in
-    let ten : 10 ≤ n = omega (arith, pow-suc 10 k, one-least k) in
-    omega (arith, length-more n ten, digits-least k (n / 10) tenth)
-  where
-    one-least : (k : ℕ) → 1 ≤ 10 ^ k
-    one-least zero = omega arith
-    one-least (suc k) = omega (arith, pow-suc 10 k, one-least k)
+ten-least : (k : ℕ) → 10 ≤ 10 ^ suc k
+ten-least zero = omega arith
+ten-least (suc k) = omega (arith, pow-suc 10 (suc k), ten-least k)
 
--- one between has k + 1, which are at most twenty in a machine word
-pub digits-many : (k n : ℕ) → k < 20 → 10 ^ k ≤ n → n < 10 ^ suc k → (suc k ≡ length (digits n)) × (suc k ≤ 20)
-digits-many k n h l g = (omega (arith, digits-least k n l, digits-length k n g), h)
+-- one of 10 ^ k or more has k digits besides those of what is left without them
+pub digits-besides : (k n : ℕ) → 10 ^ k ≤ n → length (digits n) ≡ k + length (digits (n / 10 ^ k))
+digits-besides zero n h = let e : n / 10 ^ 0 ≡ n = omega arith in rw e (omega arith)
+digits-besides (suc k) n h =
+    let tenth : 10 ^ k ≤ n / 10 = le-div-iff-mul-le (lit< tt) .1 (rw pow-suc at h) in
+    let ten : 10 ≤ n = omega (arith, ten-least k) in
+    let power : 10 * 10 ^ k ≡ 10 ^ suc k = omega (arith, pow-suc 10 k) in
+    let rest : n / 10 / 10 ^ k ≡ n / 10 ^ suc k = div-div-eq-div-mul n 10 (10 ^ k) ∙ ap (λ (m : ℕ). n / m) power in
+    rw (← rest) (omega (arith, length-more n ten, digits-besides k (n / 10) tenth))
+
+-- one between has k + 1, here at most m
+pub digits-many : (k m n : ℕ) → k < m → 10 ^ k ≤ n → n < 10 ^ suc k → (suc k ≡ length (digits n)) × (suc k ≤ m)
+digits-many k m n h l g =
+    (omega (arith, digits-besides k n l, digits-length k n g, printed-long (n / 10 ^ k) []), h)
 
 -- of numbers with at most sixteen digits, one that is missing is printed as 0
 first-sixteen : (ns : List ℕ) → Each Readable ns → length (digits (getD ns 0 0)) ≤ 16
@@ -119,7 +122,8 @@ pub none-counted : (ns : List ℕ) → Counting ns 0 0
 none-counted ns = record { within = omega arith; short = omega arith; left = omega arith }
 
 module _ (ns : List ℕ) (sum i : ℕ) (g : Counting ns sum i) where
-  pub one-counted : i < length ns → (r : ℕ) → r ≡ length (digits (getD ns i 0)) → r ≤ 20 → Counting ns (sum + r) (i + 1)
+  pub one-counted : i < length ns → (r : ℕ) → r ≡ length (digits (getD ns i 0)) → r ≤ 20
+      → Counting ns (sum + r) (i + 1)
   one-counted h r e k = record {
     within = omega arith;
     short = omega (arith, g .short);

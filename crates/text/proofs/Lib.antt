@@ -1,5 +1,7 @@
 pub mod Printing
 pub mod Words
+pub mod Marks
+pub mod Zeros
 pub mod Eights
 pub mod Digits
 pub mod Runs

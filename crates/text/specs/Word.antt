@@ -5,8 +5,9 @@ use mathlib.Core.Bool.{true, false}
 use mathlib.Core.List.{List}
 use Prim.Native.Nat.{ℕ, zero, suc, _+_, _*_, _/_, _%_, _^_, _≤_, _<_}
 use lib.Dec.{ltb}
-use lib.ListN.{getD}
+use lib.ListN.{length, getD}
 use Rattle.text.specs.Number.{digitOf}
+use Rattle.text.specs.declared.word.Digits.{Digits}
 
 -- the byte at a place of a word
 abbrev pub byteOf : ℕ → ℕ → ℕ
@@ -45,3 +46,9 @@ pub record Leading (t r : ℕ) : Type 0 where
   pub within : r ≤ 8
   pub figures : Figures t r
   pub end : r < 8 → 10 ≤ byteOf t r
+
+-- r has the eight bytes of the text s from the place at on, '0' taken from each, and how many digits they begin with
+pub record DigitsAt (s : List ℕ) (at : ℕ) (r : Digits) : Type 0 where
+  pub room : at + 8 ≤ length s
+  pub bytes : Lowered s at (r .word)
+  pub leading : Leading (r .word) (r .count)

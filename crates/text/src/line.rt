@@ -10,14 +10,16 @@ pub fn place_of(s: &[u8], at: usize, byte: u8) -> usize
     requires { ⌜ at ≤ length (now s) ⌝ }
     ensures { λ r. ⌜ (r ≡ placeOf byte (now (s .entry)) at) × (at ≤ r) × (r ≤ length (now (s .entry))) ⌝ }
 {
-    let mut i = at;
-    while i < s.len() {
+    let end = s.len();
+    let mut left = end - at;
+    while 0 < left {
+        let i = end - left;
         if s[i] == byte {
             return i;
         }
-        i += 1;
+        left -= 1;
     }
-    i
+    end
 }
 
 // Where the line that begins at a place ends: at its line feed, or at the end of the text.

@@ -47,11 +47,14 @@ fn read_on(s: &[u8], first: u64, at: usize) -> Number
     Number::Value(value, i)
 }
 
-// The number at a place, byte by byte: for the last few bytes of a text.
-fn read_bytes(s: &[u8], at: usize) -> Number
-    requires { ⌜ at < length (now s) ⌝ }
+// The number of 1 to 16 digits at a place of a text, byte by byte: for numbers that mostly have few digits, and for
+// the last few bytes of a text.
+pub fn read_short(s: &[u8], at: usize) -> Number
     ensures { λ r. ⌜ r ≡ numberAt (now (s .entry)) at ⌝ }
 {
+    if s.len() <= at {
+        return Number::Nothing;
+    }
     let value = digit(s[at]);
     if 10 <= value {
         return Number::Nothing;
@@ -87,15 +90,15 @@ fn read_more(s: &[u8], value: u64, at: usize) -> Number
     if 10 <= next {
         return Number::Value(value, at);
     }
-    let word = word::lowered(s, at);
-    let count = word::leading(word);
-    if count == 8 {
-        return read_on(s, value * 100000000 + word::eight(word), at + 8);
+    let digits = word::digits_at(s, at);
+    if digits.count == 8 {
+        return read_on(s, value * 100000000 + word::eight(digits.word), at + 8);
     }
-    Number::Value(value * ten_to(count) + word::first(word, count), at + count)
+    let more = word::first(digits.word, digits.count);
+    Number::Value(value * ten_to(digits.count) + more, at + digits.count)
 }
 
-// The number of 1 to 16 digits at a place of a text, eight bytes at a time.
+// The same, eight bytes at a time.
 pub fn read(s: &[u8], at: usize) -> Number
     ensures { λ r. ⌜ r ≡ numberAt (now (s .entry)) at ⌝ }
 {
@@ -103,87 +106,68 @@ pub fn read(s: &[u8], at: usize) -> Number
         return Number::Nothing;
     }
     if s.len() - at < 8 {
-        return read_bytes(s, at);
+        return read_short(s, at);
     }
-    let word = word::lowered(s, at);
-    let count = word::leading(word);
-    if count == 0 {
+    let digits = word::digits_at(s, at);
+    if digits.count == 0 {
         return Number::Nothing;
     }
-    if word % 256 == 0 {
-        if count == 1 {
+    if digits.word % 256 == 0 {
+        if digits.count == 1 {
             return Number::Value(0, at + 1);
         }
         return Number::Nothing;
     }
-    if count == 8 {
-        return read_more(s, word::eight(word), at + 8);
+    if digits.count == 8 {
+        return read_more(s, word::eight(digits.word), at + 8);
     }
-    Number::Value(word::first(word, count), at + count)
+    Number::Value(word::first(digits.word, digits.count), at + digits.count)
 }
 
-// How many digits a number has.
+// How many digits a number of less than nine digits has.
+fn size_short(n: u64) -> usize
+    requires { ⌜ n < 10 ^ 8 ⌝ }
+    ensures { λ r. ⌜ (r ≡ length (digits n)) × (r ≤ 8) ⌝ }
+{
+    if n < 10000 {
+        if n < 100 {
+            if n < 10 {
+                return 1;
+            }
+            return 2;
+        }
+        if n < 1000 {
+            return 3;
+        }
+        return 4;
+    }
+    if n < 1000000 {
+        if n < 100000 {
+            return 5;
+        }
+        return 6;
+    }
+    if n < 10000000 {
+        return 7;
+    }
+    8
+}
+
+// How many digits a number has: eight by eight. Most numbers of a statement are 0, and are told first.
 pub fn size(n: u64) -> usize
     ensures { λ r. ⌜ (r ≡ length (digits n)) × (r ≤ 20) ⌝ }
 {
     if n < 10 {
         return 1;
     }
-    if n < 100 {
-        return 2;
+    if n < 100000000 {
+        return size_short(n);
     }
-    if n < 1000000 {
-        if n < 10000 {
-            if n < 1000 {
-                return 3;
-            }
-            return 4;
-        }
-        if n < 100000 {
-            return 5;
-        }
-        return 6;
+    let first = n / 100000000;
+    if first < 100000000 {
+        return 8 + size_short(first);
     }
-    if n < 10000000000 {
-        if n < 100000000 {
-            if n < 10000000 {
-                return 7;
-            }
-            return 8;
-        }
-        if n < 1000000000 {
-            return 9;
-        }
-        return 10;
-    }
-    if n < 100000000000000 {
-        if n < 1000000000000 {
-            if n < 100000000000 {
-                return 11;
-            }
-            return 12;
-        }
-        if n < 10000000000000 {
-            return 13;
-        }
-        return 14;
-    }
-    if n < 1000000000000000 {
-        return 15;
-    }
-    if n < 10000000000000000 {
-        return 16;
-    }
-    if n < 100000000000000000 {
-        return 17;
-    }
-    if n < 1000000000000000000 {
-        return 18;
-    }
-    if n < 10000000000000000000 {
-        return 19;
-    }
-    20
+    16 + size_short(first / 100000000)
 }
 
 // How many digits numbers have in all.

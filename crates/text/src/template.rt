@@ -60,7 +60,7 @@ pub fn read_at(template: &[u8], s: &[u8], at: usize) -> Matched
         let byte = template[i];
         i += 1;
         if is_capital(byte) {
-            let Number::Value(v, next) = number::read(s, j) else {
+            let Number::Value(v, next) = number::read_short(s, j) else {
                 return nowhere();
             };
             values[k] = v;

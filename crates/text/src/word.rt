@@ -2,7 +2,13 @@
 ghost use mathlib.Core.Path.{_≡_};
 ghost use Prim.Native.Nat.{_+_, _^_, _≤_, _<_};
 ghost use lib.ListN.{length};
-ghost use Rattle.text.specs.Word.{byteOf, figures, BytesAt, Lowered, Marked, Leading, Figures};
+ghost use Rattle.text.specs.Word.{byteOf, figures, BytesAt, Lowered, Marked, Leading, Figures, DigitsAt};
+
+// Eight bytes of a text with '0' taken from each, and how many digits they begin with.
+pub struct Digits {
+    pub word: u64,
+    pub count: usize,
+}
 
 fn wide(byte: u8) -> u64
     ensures { λ r. ⌜ (r ≡ byte) × (r ≤ 255) ⌝ }
@@ -42,7 +48,7 @@ pub fn seven(s: &[u8], place: usize) -> u64
 }
 
 // Eight bytes with '0' taken from each byte: a digit's byte is then its value, and any other byte is 10 or more.
-pub fn lowered(s: &[u8], place: usize) -> u64
+fn lowered(s: &[u8], place: usize) -> u64
     requires { ⌜ place + 8 ≤ length (now s) ⌝ }
     ensures { λ r. ⌜ Lowered (now (s .entry)) place r ⌝ }
 {
@@ -58,11 +64,23 @@ fn marks(t: u64) -> u64
 }
 
 // How many bytes below 10 a word begins with.
-pub fn leading(t: u64) -> usize
+fn leading(t: u64) -> usize
     ensures { λ r. ⌜ Leading t r ⌝ }
 {
     let zeros = u64::trailing_zeros(marks(t));
     (zeros / 8) as usize
+}
+
+// The digits that a text has at a place, among its next eight bytes.
+pub fn digits_at(s: &[u8], place: usize) -> Digits
+    requires { ⌜ place + 8 ≤ length (now s) ⌝ }
+    ensures { λ r. ⌜ DigitsAt (now (s .entry)) place r ⌝ }
+{
+    let word = lowered(s, place);
+    Digits {
+        word,
+        count: leading(word),
+    }
 }
 
 // The number whose eight digits are the bytes of a word.

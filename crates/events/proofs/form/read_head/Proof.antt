@@ -1,6 +1,5 @@
 -- `events::form::read_head` meets its contract.
 -- Assumes nothing.
-use native.Mathlib.Omega.{arith}
 use borrow.Author.Needs.{needs}
 use Rattle.events.proofs.LineParts as law
 use Rattle.events.proofs.form.read_head.Statement.{statement}
@@ -13,10 +12,10 @@ seven-requires : tie.Need-seven-requires
 seven-requires c κs = search needs
 
 returns-2 : tie.Need-returns-2
-returns-2 c = law.head-other _ (omega arith) _ (c .before .seven .ensures) (c .if2 .taken)
+returns-2 c = search law.head-other
 
-read-requires : tie.Need-read-requires
-read-requires c κs = search needs
+read-short-requires : tie.Need-read-short-requires
+read-short-requires c κs = search needs
 
 enum-known-day : tie.Need-enum-known-day
 enum-known-day c = search needs
@@ -37,7 +36,7 @@ read-head-spec =
     returns
     seven-requires
     returns-2
-    read-requires
+    read-short-requires
     enum-known-day
     enum-told
     returns-3

@@ -16,7 +16,7 @@ seven-requires : tie.Need-seven-requires
 seven-requires c κs = search needs
 
 returns-2 : tie.Need-returns-2
-returns-2 c = law.loss-other _ _ (omega arith) _ (c .before .seven .ensures) (c .if2 .taken)
+returns-2 c = search law.loss-other
 
 add-read-treaty : tie.Need-add-read-treaty
 add-read-treaty c = search needs
@@ -31,34 +31,22 @@ enum-told : tie.Need-enum-told
 enum-told c = search needs
 
 returns-3 : tie.Need-returns-3
-returns-3 c = law.no-treaty _ _ (omega arith) _ (c .before .before .before .before .seven .ensures) (c .before .before .before .if2 .left) _ (c .before .before .read-treaty .ensures) (c .enum-told .given .1)
+returns-3 c = search law.no-treaty
 
-read-field-requires : tie.Need-read-field-requires
-read-field-requires c κs = search law.field-within
+stands-requires : tie.Need-stands-requires
+stands-requires c κs = search needs
 
-enum-known-maximum : tie.Need-enum-known-maximum
-enum-known-maximum c = search needs
+add-read-amounts : tie.Need-add-read-amounts
+add-read-amounts c = omega (arith, c .before .stands .ensures .within (c .if3 .taken))
 
-enum-told-2 : tie.Need-enum-told-2
-enum-told-2 c = search needs
+read-amounts-requires : tie.Need-read-amounts-requires
+read-amounts-requires c κs = omega (arith, c .before .stands .ensures .within (c .if3 .taken))
 
 returns-4 : tie.Need-returns-4
-returns-4 c = law.no-maximum _ _ (omega arith) _ (c .before .before .before .before .before .before .before .before .seven .ensures) (c .before .before .before .before .before .before .before .if2 .left) _ (c .before .before .before .before .before .before .read-treaty .ensures) _ _ (c .before .before .before .before .treaty .given .1) _ (c .before .before .read-field .ensures) (c .enum-told2 .given .1)
-
-read-field-requires-2 : tie.Need-read-field-requires-2
-read-field-requires-2 c κs = search law.field-within
-
-enum-known-amount : tie.Need-enum-known-amount
-enum-known-amount c = search needs
-
-enum-told-3 : tie.Need-enum-told-3
-enum-told-3 c = search needs
+returns-4 c = search law.treaty-read
 
 returns-5 : tie.Need-returns-5
-returns-5 c = law.no-amount _ _ (omega arith) _ (c .before .before .before .before .before .before .before .before .before .before .before .before .seven .ensures) (c .before .before .before .before .before .before .before .before .before .before .before .if2 .left) _ (c .before .before .before .before .before .before .before .before .before .before .read-treaty .ensures) _ _ (c .before .before .before .before .before .before .before .before .treaty .given .1) _ (c .before .before .before .before .before .before .read-field .ensures) _ _ (c .before .before .before .before .maximum .given .1) _ (c .before .before .read-field2 .ensures) (c .enum-told3 .given .1)
-
-returns-6 : tie.Need-returns-6
-returns-6 c = law.loss-read _ _ (omega arith) _ (c .before .before .before .before .before .before .before .before .before .before .before .before .before .seven .ensures) (c .before .before .before .before .before .before .before .before .before .before .before .before .if2 .left) _ (c .before .before .before .before .before .before .before .before .before .before .before .read-treaty .ensures) _ _ (c .before .before .before .before .before .before .before .before .before .treaty .given .1) _ (c .before .before .before .before .before .before .before .read-field .ensures) _ _ (c .before .before .before .before .before .maximum .given .1) _ (c .before .before .before .read-field2 .ensures) _ _ (c .before .amount .given .1)
+returns-5 c = search law.treaty-unended
 
 pub read-loss-spec : {M : Type 1} → statement M
 read-loss-spec =
@@ -73,12 +61,8 @@ read-loss-spec =
     enum-known-treaty
     enum-told
     returns-3
-    read-field-requires
-    enum-known-maximum
-    enum-told-2
+    stands-requires
+    add-read-amounts
+    read-amounts-requires
     returns-4
-    read-field-requires-2
-    enum-known-amount
-    enum-told-3
-    returns-5
-    returns-6)
+    returns-5)

@@ -1,8 +1,8 @@
 -- `events::form::read_treaty` meets its contract.
 -- Assumes nothing.
 use native.Mathlib.Omega.{arith}
-use Rattle.events.proofs.LineParts as law
 use borrow.Author.Needs.{needs}
+use Rattle.events.proofs.LineParts as law
 use Rattle.events.proofs.form.read_treaty.Statement.{statement}
 use Rattle.events.proofs.form.read_treaty.Tie as tie
 
@@ -25,10 +25,11 @@ add-t14 : tie.Need-add-t14
 add-t14 c = search needs
 
 returns : tie.Need-returns
-returns c = law.field-one _ _ _ (omega arith) (c .before .before .before .digit .ensures) (omega arith) (omega arith)
+returns c =
+    law.treaty-one _ _ _ (omega arith) (c .before .before .before .digit .ensures) (omega arith) (omega arith)
 
-read-field-requires : tie.Need-read-field-requires
-read-field-requires c κs = search needs
+read-short-requires : tie.Need-read-short-requires
+read-short-requires c κs = search needs
 
 returns-2 : tie.Need-returns-2
 returns-2 c = search needs
@@ -44,5 +45,5 @@ read-treaty-spec =
     shared-slice-read-after
     add-t14
     returns
-    read-field-requires
+    read-short-requires
     returns-2)

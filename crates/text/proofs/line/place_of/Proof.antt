@@ -1,40 +1,42 @@
 -- `text::line::place_of` meets its contract.
 -- Assumes nothing.
-use mathlib.Core.Path.{_≡_}
-use Prim.Native.Nat.{_-_, _≤_}
 use borrow.Author.Needs.{needs}
-use lib.ListN.{length}
-use Rattle.text.specs.Lines.{placeOf}
-use Rattle.text.proofs.Feeds.{nowhere, here, later}
+use Rattle.text.proofs.Feeds as law
 use Rattle.text.proofs.line.place_of.Statement.{statement}
 use Rattle.text.proofs.line.place_of.Tie as tie
 
 abbrev Inv-loop : tie.InvT-loop
-Inv-loop s at byte i₀ i = (at ≤ i) × (i ≤ length s) × (placeOf byte s at ≡ placeOf byte s i)
+Inv-loop s at byte end left₀ left = law.Seeking byte s at left
 
 abbrev μ-loop : tie.MeasureT-loop
-μ-loop s at byte i₀ i = length s - i
+μ-loop s at byte end left₀ left = left
+
+sub-left : tie.Need-sub-left Inv-loop μ-loop
+sub-left c = search needs
 
 loop-holds : tie.Need-loop-holds Inv-loop μ-loop
-loop-holds c = search needs
+loop-holds c = search law.none-sought
+
+sub-i : tie.Need-sub-i Inv-loop μ-loop
+sub-i c = search needs
 
 shared-slice-read-if1 : tie.Need-shared-slice-read-if1 Inv-loop μ-loop
 shared-slice-read-if1 c = search needs
 
 returns : tie.Need-returns Inv-loop μ-loop
-returns c = (search here, search needs, search needs)
+returns c = (search law.here, search needs, search needs)
 
-add-i : tie.Need-add-i Inv-loop μ-loop
-add-i c = search needs
+sub-left-2 : tie.Need-sub-left-2 Inv-loop μ-loop
+sub-left-2 c = search needs
 
 loop-less : tie.Need-loop-less Inv-loop μ-loop
 loop-less c = search needs
 
 loop-again : tie.Need-loop-again Inv-loop μ-loop
-loop-again c = (search needs, search needs, search later)
+loop-again c = search law.later
 
 returns-2 : tie.Need-returns-2 Inv-loop μ-loop
-returns-2 c = (search nowhere, search needs, search needs)
+returns-2 c = (search law.nowhere, search needs, search needs)
 
 pub place-of-spec : {M : Type 1} → statement M
 place-of-spec =
@@ -42,10 +44,12 @@ place-of-spec =
     (tie.spec
     Inv-loop
     μ-loop
+    sub-left
     loop-holds
+    sub-i
     shared-slice-read-if1
     returns
-    add-i
+    sub-left-2
     loop-less
     loop-again
     returns-2)

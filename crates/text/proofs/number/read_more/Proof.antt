@@ -24,17 +24,14 @@ digit-requires c κs = search needs
 returns-2 : tie.Need-returns-2
 returns-2 c = run.no-more _ _ _ _ (omega arith) (c .before .digit .ensures) (omega arith)
 
-lowered-requires : tie.Need-lowered-requires
-lowered-requires c κs = search needs
-
-leading-requires : tie.Need-leading-requires
-leading-requires c κs = search needs
+digits-at-requires : tie.Need-digits-at-requires
+digits-at-requires c κs = search needs
 
 mul-read-on : tie.Need-mul-read-on
 mul-read-on c = search needs
 
 eight-requires : tie.Need-eight-requires
-eight-requires c κs = run.all-eight _ _ _ (omega arith) (c .before .before .lowered .ensures) _ (c .before .leading .ensures) (c .if3 .taken)
+eight-requires c κs = search run.all-eight
 
 add-read-on : tie.Need-add-read-on
 add-read-on c = search needs
@@ -46,25 +43,25 @@ read-on-requires-2 : tie.Need-read-on-requires-2
 read-on-requires-2 c κs = search needs
 
 returns-3 : tie.Need-returns-3
-returns-3 c = run.more-long _ _ _ (omega arith) (c .before .before .before .before .lowered .ensures) _ (c .before .before .before .leading .ensures) _ (c .before .before .before .before .before .before .before .before .before .before .pre .0) (c .before .before .before .before .before .before .before .before .before .before .pre .1) _ (c .before .before .before .before .before .before .digit .ensures) (omega arith) _ (c .before .before .if3 .taken) (c .before .eight .ensures .0) _ (c .read-on2 .ensures)
-
-ten-to-requires : tie.Need-ten-to-requires
-ten-to-requires c κs = (run.some-digits _ _ _ (omega arith) (c .before .before .lowered .ensures) _ (c .before .leading .ensures) _ (c .before .before .before .before .before .before .before .before .pre .0) (c .before .before .before .before .before .before .before .before .pre .1) _ (c .before .before .before .before .digit .ensures) (omega arith), search needs)
-
-mul-t17 : tie.Need-mul-t17
-mul-t17 c = omega (arith, run.product _ _ (c .before .before .before .before .before .before .before .before .before .pre .1) (c .ten-to .ensures .1))
+returns-3 c = search run.more-long
 
 first-requires : tie.Need-first-requires
-first-requires c κs = (run.some-digits _ _ _ (omega arith) (c .before .before .before .lowered .ensures) _ (c .before .before .leading .ensures) _ (c .before .before .before .before .before .before .before .before .before .pre .0) (c .before .before .before .before .before .before .before .before .before .pre .1) _ (c .before .before .before .before .before .digit .ensures) (omega arith), search needs, search needs)
+first-requires c κs = (search run.some-digits, search needs, search needs)
 
-add-t19 : tie.Need-add-t19
-add-t19 c = omega (arith, run.product _ _ (c .before .before .before .before .before .before .before .before .before .before .pre .1) (c .before .ten-to .ensures .1))
+ten-to-requires : tie.Need-ten-to-requires
+ten-to-requires c κs = (search run.some-digits, search needs)
+
+mul-t17 : tie.Need-mul-t17
+mul-t17 c = search run.product-fits
+
+add-t18 : tie.Need-add-t18
+add-t18 c = search run.sum-fits
 
 add-t7 : tie.Need-add-t7
 add-t7 c = search needs
 
 returns-4 : tie.Need-returns-4
-returns-4 c = run.more-short _ _ _ (omega arith) (c .before .before .before .before .lowered .ensures) _ (c .before .before .before .leading .ensures) _ (c .before .before .before .before .before .before .before .before .before .before .pre .0) (c .before .before .before .before .before .before .before .before .before .before .pre .1) _ (c .before .before .before .before .before .before .digit .ensures) (omega arith) _ (c .before .before .if3 .left) _ (c .before .ten-to .ensures .0) (c .first .ensures .0)
+returns-4 c = search run.more-short
 
 pub read-more-spec : {M : Type 1} → statement M
 read-more-spec =
@@ -76,17 +73,16 @@ read-more-spec =
     shared-slice-read-digit
     digit-requires
     returns-2
-    lowered-requires
-    leading-requires
+    digits-at-requires
     mul-read-on
     eight-requires
     add-read-on
     add-read-on-2
     read-on-requires-2
     returns-3
+    first-requires
     ten-to-requires
     mul-t17
-    first-requires
-    add-t19
+    add-t18
     add-t7
     returns-4)

@@ -1,93 +1,57 @@
 -- `text::number::size` meets its contract.
 -- Assumes nothing.
 use mathlib.Core.Path.{sym}
-use borrow.Author.Needs.{needs}
+use Prim.Native.Nat.{_/_, _^_}
 use native.Mathlib.Omega.{arith}
-use Rattle.text.proofs.Lengths.{length-one, digits-many}
+use borrow.Author.Needs.{needs}
+use Rattle.text.proofs.Lengths.{length-one, digits-length, digits-besides}
 use Rattle.text.proofs.number.size.Statement.{statement}
 use Rattle.text.proofs.number.size.Tie as tie
 
 returns : tie.Need-returns
-returns c = (sym (length-one _ (search needs)), search needs)
+returns c = (sym (length-one _ (omega arith)), omega arith)
+
+size-short-requires : tie.Need-size-short-requires
+size-short-requires c κs = search needs
 
 returns-2 : tie.Need-returns-2
-returns-2 c = digits-many 1 _ (omega arith) (omega arith) (omega arith)
+returns-2 c = search needs
+
+size-short-requires-2 : tie.Need-size-short-requires-2
+size-short-requires-2 c κs = search needs
+
+add-result : tie.Need-add-result
+add-result c = search needs
 
 returns-3 : tie.Need-returns-3
-returns-3 c = digits-many 2 _ (omega arith) (omega arith) (omega arith)
+returns-3 c =
+    let n = c .before .before .before .before .args .n in
+    (omega (arith, digits-besides 8 n (omega arith), c .size-short2 .ensures), omega (arith, c .size-short2 .ensures))
+
+size-short-requires-3 : tie.Need-size-short-requires-3
+size-short-requires-3 c κs = search needs
+
+add-result-2 : tie.Need-add-result-2
+add-result-2 c = search needs
 
 returns-4 : tie.Need-returns-4
-returns-4 c = digits-many 3 _ (omega arith) (omega arith) (omega arith)
-
-returns-5 : tie.Need-returns-5
-returns-5 c = digits-many 4 _ (omega arith) (omega arith) (omega arith)
-
-returns-6 : tie.Need-returns-6
-returns-6 c = digits-many 5 _ (omega arith) (omega arith) (omega arith)
-
-returns-7 : tie.Need-returns-7
-returns-7 c = digits-many 6 _ (omega arith) (omega arith) (omega arith)
-
-returns-8 : tie.Need-returns-8
-returns-8 c = digits-many 7 _ (omega arith) (omega arith) (omega arith)
-
-returns-9 : tie.Need-returns-9
-returns-9 c = digits-many 8 _ (omega arith) (omega arith) (omega arith)
-
-returns-10 : tie.Need-returns-10
-returns-10 c = digits-many 9 _ (omega arith) (omega arith) (omega arith)
-
-returns-11 : tie.Need-returns-11
-returns-11 c = digits-many 10 _ (omega arith) (omega arith) (omega arith)
-
-returns-12 : tie.Need-returns-12
-returns-12 c = digits-many 11 _ (omega arith) (omega arith) (omega arith)
-
-returns-13 : tie.Need-returns-13
-returns-13 c = digits-many 12 _ (omega arith) (omega arith) (omega arith)
-
-returns-14 : tie.Need-returns-14
-returns-14 c = digits-many 13 _ (omega arith) (omega arith) (omega arith)
-
-returns-15 : tie.Need-returns-15
-returns-15 c = digits-many 14 _ (omega arith) (omega arith) (omega arith)
-
-returns-16 : tie.Need-returns-16
-returns-16 c = digits-many 15 _ (omega arith) (omega arith) (omega arith)
-
-returns-17 : tie.Need-returns-17
-returns-17 c = digits-many 16 _ (omega arith) (omega arith) (omega arith)
-
-returns-18 : tie.Need-returns-18
-returns-18 c = digits-many 17 _ (omega arith) (omega arith) (omega arith)
-
-returns-19 : tie.Need-returns-19
-returns-19 c = digits-many 18 _ (omega arith) (omega arith) (omega arith)
-
-returns-20 : tie.Need-returns-20
-returns-20 c = digits-many 19 _ (omega arith) (omega arith) (omega arith)
+returns-4 c =
+    let n = c .before .before .before .before .args .n in
+    let few = digits-length 3 (n / 10 ^ 8 / 10 ^ 8) (omega arith) in
+    let eight = digits-besides 8 n (omega arith) in
+    let sixteen = digits-besides 8 (n / 10 ^ 8) (omega arith) in
+    (omega (arith, eight, sixteen, c .size-short3 .ensures), omega (arith, few, c .size-short3 .ensures))
 
 pub size-spec : {M : Type 1} → statement M
 size-spec =
     tie.close
     (tie.spec
     returns
+    size-short-requires
     returns-2
+    size-short-requires-2
+    add-result
     returns-3
-    returns-4
-    returns-5
-    returns-6
-    returns-7
-    returns-8
-    returns-9
-    returns-10
-    returns-11
-    returns-12
-    returns-13
-    returns-14
-    returns-15
-    returns-16
-    returns-17
-    returns-18
-    returns-19
-    returns-20)
+    size-short-requires-3
+    add-result-2
+    returns-4)

@@ -36,8 +36,8 @@ add-i c = search needs
 is-capital-requires : tie.Need-is-capital-requires Inv-loop μ-loop
 is-capital-requires c κs = search needs
 
-read-requires : tie.Need-read-requires Inv-loop μ-loop
-read-requires c κs = search needs
+read-short-requires : tie.Need-read-short-requires Inv-loop μ-loop
+read-short-requires c κs = search needs
 
 enum-known-v : tie.Need-enum-known-v Inv-loop μ-loop
 enum-known-v c = search needs
@@ -103,7 +103,7 @@ read-at-spec =
     shared-slice-read-byte
     add-i
     is-capital-requires
-    read-requires
+    read-short-requires
     enum-known-v
     enum-told
     nowhere-requires

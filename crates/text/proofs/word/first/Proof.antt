@@ -19,7 +19,7 @@ eight-requires : tie.Need-eight-requires
 eight-requires c κs = first-figures _ _ (omega arith) (c .pre .1) (c .pre .2)
 
 returns : tie.Need-returns
-returns c = (first-value _ _ (omega arith) (c .before .pre .1) (c .before .pre .2) _ (c .eight .ensures .0), c .eight .ensures .1)
+returns c = first-value _ _ (omega arith) (c .before .pre .1) (c .before .pre .2) _ (c .eight .ensures)
 
 pub first-spec : {M : Type 1} → statement M
 first-spec = tie.close (tie.spec mul-unused sub-unused shl-eight eight-requires returns)

@@ -3,7 +3,7 @@
 use native.Mathlib.Omega.{arith}
 use borrow.Author.Needs.{needs}
 use lib.Count.{trailing-le}
-use Rattle.text.proofs.Words.{leading-bytes}
+use Rattle.text.proofs.Zeros.{leading-bytes}
 use Rattle.text.proofs.word.leading.Statement.{statement}
 use Rattle.text.proofs.word.leading.Tie as tie
 

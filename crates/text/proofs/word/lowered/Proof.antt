@@ -1,7 +1,7 @@
 -- `text::word::lowered` meets its contract.
 -- Assumes nothing.
 use borrow.Author.Needs.{needs}
-use Rattle.text.proofs.Words.{lowered-bytes}
+use Rattle.text.proofs.Marks.{lowered-bytes}
 use Rattle.text.proofs.word.lowered.Statement.{statement}
 use Rattle.text.proofs.word.lowered.Tie as tie
 

@@ -2,7 +2,7 @@
 -- Assumes nothing.
 use native.Mathlib.Omega.{arith}
 use lib.Bits.{and-le-r}
-use Rattle.text.proofs.Words.{marked-bytes}
+use Rattle.text.proofs.Marks.{marked-bytes}
 use Rattle.text.proofs.word.marks.Statement.{statement}
 use Rattle.text.proofs.word.marks.Tie as tie
 

@@ -31,8 +31,9 @@ returns : tie.Need-returns
 returns c =
     let n = c .before .before in
     let s = n .before .before .args in
-    let r = c .before .plus .ensures ∙ ap (λ (x : ℕ). s .sums .recovered .0 + x) (n .before .recovery-since .ensures) in
-    let p = c .plus2 .ensures ∙ ap (λ (x : ℕ). s .sums .premium .0 + x) (n .premium-since .ensures) in
+    let before = s .sums in
+    let r = c .before .plus .ensures ∙ ap (λ (x : ℕ). before .recovered .0 + x) (n .before .recovery-since .ensures) in
+    let p = c .plus2 .ensures ∙ ap (λ (x : ℕ). before .premium .0 + x) (n .premium-since .ensures) in
     λ i. record { layer = s .self; sums = sumsOf (r i) (p i) }
 
 pub borne-since-spec : {M : Type 1} → statement M
