@@ -112,9 +112,6 @@ module _ (n : ℕ) (d : List ℕ) (at : ℕ) (d′ : List ℕ) (v i : ℕ) (g : 
 
   -- where there is room
   module _ (room : at + 20 ≤ length d) where
-    pub one-room : at < length d′
-    one-room = omega (arith, g .size)
-
     pub second-room : (b : ℕ) → 100 ≤ v → i - 2 + 1 < length (set d′ (i - 2) b)
     second-room b h = simp length-set (omega (arith, g .size, g .inside, two-inside h))
 
