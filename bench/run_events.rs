@@ -1,196 +1,142 @@
-// Running events against the second calculation: the same answers, and how many times the time. Then the stack that a
-// run takes. `bash bench/run` builds and runs it. Nothing here is part of the gate.
+// Running events against the yardstick, a fast plain Rust program: the same bytes and standings, and how many times
+// the time. Then the stack that a run takes. `bash bench/run events` builds and runs it. Called as `run_events count
+// CASE SIDE` it does one run of one case by `engine` or `yardstick`, for bench/count.py to count its instructions; as
+// `run_events names` it names the cases that are one run. Nothing here is part of the gate.
 #[path = "../tests/second/calculation.rs"]
-#[allow(dead_code)] // the tests call the rest
+#[allow(dead_code)] // of the second calculation only the reading of tables is used here
 mod calculation;
+mod cases;
+#[path = "../tests/years/draw.rs"]
+#[allow(dead_code)] // the tests call the rest
+mod draw;
+mod drawn_years;
+#[path = "../tests/years/random.rs"]
 mod random;
 #[path = "../bindings/rust/src/raw.rs"]
-#[allow(dead_code)] // writing is not measured here
+#[allow(dead_code)] // opening and writing are not measured here
 mod raw;
+mod sides;
+mod stack;
+#[path = "../tests/years/totals.rs"]
+#[allow(dead_code)] // the tests call the rest
+mod totals;
+mod yardstick;
 
-use random::Random;
-use std::fmt::Write;
+use cases::{Case, CASES, EVENTS_BYTES};
+use sides::{Rooms, Year, ROOM};
+use std::env;
 use std::hint::black_box;
 use std::time::Instant;
 
-const ROOM: usize = 65_536;
-const ROUNDS: usize = 60;
-
-// A table and an events text, as both sides take them.
-struct Case {
-    name: &'static str,
-    events: Vec<u8>,
-    engine: raw::Programme,
-    fresh: raw::Standing,
-    second: calculation::Programme,
-}
+const ROUNDS: usize = 101;
+// A round takes the yardstick about so long, in nanoseconds.
+const ROUND_TIME: f64 = 500_000.0;
 
 impl Case {
-    fn new(name: &'static str, table: &str, events: String) -> Case {
-        let reading = unsafe { raw::cession_read(table.as_ptr(), table.len()) };
-        assert_eq!(reading.refusal, 0, "{table}");
-        let second = calculation::read_table(table.as_bytes()).expect("a table");
-        let fresh = unsafe { raw::cession_open(reading.programme) }.standing;
-        Case { name, events: events.into_bytes(), engine: reading.programme, fresh, second }
-    }
-
-    fn by_engine(&self, buffer: &mut [u8]) -> Result<usize, calculation::Refusal> {
-        let mut standing = self.fresh;
-        let (text, room) = (self.events.as_ptr(), buffer.as_mut_ptr());
-        let answer =
-            unsafe { raw::cession_run(self.engine, &mut standing, text, self.events.len(), room, buffer.len()) };
-        match answer {
-            raw::Answer { refusal: 0, number } => Ok(number as usize),
-            raw::Answer { refusal, number } => Err((refusal, number)),
+    fn by_engine(&self, room: &mut [u8]) {
+        for events in &self.texts {
+            let mut standing = Default::default();
+            black_box(self.sides.by_engine(&mut standing, black_box(events), room));
+            black_box(standing);
         }
     }
 
-    fn by_second(&self, buffer: &mut [u8]) -> Result<usize, calculation::Refusal> {
-        calculation::run(&self.second, &mut calculation::Standing::default(), &self.events, buffer)
+    fn by_yardstick(&self, room: &mut [u8]) {
+        for events in &self.texts {
+            let mut standing = Default::default();
+            black_box(self.sides.by_yardstick(&mut standing, black_box(events), room));
+            black_box(standing);
+        }
     }
 
-    // The same answer and the same bytes; gives what was answered.
-    fn compare(&self) -> Result<usize, calculation::Refusal> {
-        let (mut ours, mut theirs) = (vec![7; ROOM], vec![7; ROOM]);
-        let answer = self.by_engine(&mut ours);
-        assert_eq!(answer, self.by_second(&mut theirs), "{}", self.name);
-        assert!(ours == theirs, "{}: the statements differ", self.name);
-        answer
+    // Compares both sides; gives the length of all events and that of all statements.
+    fn compare(&self, name: &str, rooms: &mut Rooms) -> [usize; 2] {
+        let mut written = 0;
+        for events in &self.texts {
+            let statement = self.sides.compare(&mut Year::default(), events, rooms);
+            assert!(name != "open" || !drawn_years::has_cap_reached(statement), "a layer has come to its cap");
+            written += statement.len();
+        }
+        [self.texts.iter().map(Vec::len).sum(), written]
     }
 
-    // The least times of one run by each side, taken in turn, and of the second calculation's test of the programme,
-    // which writes and reads the whole table.
-    fn times(&self) -> [f64; 3] {
-        let (mut ours, mut theirs) = (vec![0; ROOM], vec![0; ROOM]);
-        let turns = 2_000_000 / (self.events.len() + 1_000);
-        let mut least = [f64::MAX; 3];
+    // The median times of one turn by each side, in microseconds; the sides take turns.
+    fn times(&self, room: &mut [u8]) -> [f64; 2] {
+        let turns = (ROUND_TIME / time(1, || self.by_yardstick(room))).clamp(1.0, 10_000.0) as usize;
+        let mut times = [vec![], vec![]];
         for _ in 0..ROUNDS {
-            least[0] = least[0].min(time(turns, || black_box(self).by_engine(black_box(&mut ours))));
-            least[1] = least[1].min(time(turns, || black_box(self).by_second(black_box(&mut theirs))));
-            least[2] = least[2].min(time(turns, || black_box(self).second.is_of_a_table()));
+            times[0].push(time(turns, || self.by_engine(room)) / 1e3);
+            times[1].push(time(turns, || self.by_yardstick(room)) / 1e3);
         }
-        least
-    }
-
-    fn print(&self) {
-        let answer = self.compare();
-        let [ours, theirs, test] = self.times();
-        println!(
-            "{}, {} bytes, answer {:?}: engine {:.2} us, second calculation {:.2} us, ratio {:.2}; \
-            without its test of the programme, {:.2} us: ratio {:.2}",
-            self.name,
-            self.events.len(),
-            answer,
-            ours / 1e3,
-            theirs / 1e3,
-            ours / theirs,
-            test / 1e3,
-            ours / (theirs - test)
-        );
+        times.map(median)
     }
 }
 
 // The mean time of a call, in nanoseconds.
 fn time<T>(turns: usize, mut call: impl FnMut() -> T) -> f64 {
     let start = Instant::now();
-    (0..turns).for_each(|_| drop(black_box(call())));
+    for _ in 0..turns {
+        black_box(call());
+    }
     start.elapsed().as_nanos() as f64 / turns as f64
 }
 
-// Eight treaties of both kinds and eight layers in each tier, so that a loss meets several of them.
-fn full_table() -> String {
-    let mut table = String::new();
-    for t in (1..=8).step_by(2) {
-        let _ = writeln!(table, "(quota {t} (cede {}) (capacity 40000000) (event 900000000))", 3_000 + 100 * t);
-        let _ = writeln!(table, "(surplus {} (retain 10000000) (lines {t}) (event 0))", t + 1);
+fn median(mut times: Vec<f64>) -> f64 {
+    times.sort_by(f64::total_cmp);
+    times[times.len() / 2]
+}
+
+// All cases are compared before the first is timed.
+fn print_times() {
+    let (mut rooms, mut room) = (Rooms::new(), vec![0; ROOM]);
+    let cases = CASES.map(|(name, draw)| (name, draw()));
+    let lengths = cases.each_ref().map(|(name, case)| case.compare(name, &mut rooms));
+    println!("the same bytes and standings in {} cases", cases.len());
+    println!("| case | events, bytes | statement, bytes | engine, us | yardstick, us | ratio |");
+    println!("|---|---:|---:|---:|---:|---:|");
+    for ((name, case), [read, written]) in cases.iter().zip(lengths) {
+        let [ours, theirs] = case.times(&mut room);
+        println!("| {name} | {read} | {written} | {ours:.2} | {theirs:.2} | {:.2} |", ours / theirs);
     }
-    for (tier, first, limit) in [("risk", 2_000_000, 5_000_000), ("cat", 50_000_000, 150_000_000)] {
-        for i in 0..8 {
-            let (attachment, rate, placed) = (first + i * limit, 5_000 + 1_000 * i, 9_999 - 300 * i);
-            let _ = writeln!(
-                table,
-                "({tier} (band {attachment} {limit}) (deduct {limit}) (back 20 {rate} 7500001) (placed {placed}))"
-            );
-        }
-    }
-    table
 }
 
-fn event(random: &mut Random, day: u64, losses: usize, treaties: u64) -> String {
-    let mut line = format!("(event {day}");
-    for _ in 0..losses {
-        let most = random.between(1, 60_000_000);
-        let _ = write!(line, " (loss {} {most} {})", random.between(0, treaties), random.between(0, most));
-    }
-    line + ")\n"
+fn case_named(name: &str) -> Case {
+    let (_, draw) = CASES.iter().find(|(known, _)| *known == name).expect("the name of a case");
+    draw()
 }
 
-// As many events of 64 losses as the longest text holds.
-fn full_year(random: &mut Random) -> Case {
-    let mut events = String::new();
-    for day in 1.. {
-        let line = event(random, day, 64, 8);
-        if events.len() + line.len() > 65_536 {
-            break;
-        }
-        events += &line;
-    }
-    Case::new("full year", &full_table(), events)
+// The statement of events without losses does not fit into the buffer that the program lends.
+fn print_refused() {
+    let case = case_named("no-loss");
+    let mut room = vec![0; EVENTS_BYTES];
+    let mut call = || case.sides.answer(&mut Default::default(), &case.texts[0], &mut room);
+    let answer = call();
+    let times = (0..ROUNDS).map(|_| time(1, &mut call)).collect();
+    println!(
+        "no-loss into {EVENTS_BYTES} bytes: engine refuses with {}, {} needed, in {:.2} us",
+        answer.refusal,
+        answer.number,
+        median(times) / 1e3
+    );
 }
 
-fn short_year(random: &mut Random) -> Case {
-    let table = "(quota 1 (cede 4000) (capacity 40000000) (event 90000000))\n\
-        (risk (band 10000000 15000000) (deduct 0) (back 1 10000 750000) (placed 9000))\n\
-        (cat (band 20000000 30000000) (deduct 0) (back 1 10000 900000) (placed 8000))\n\
-        (cat (band 50000000 50000000) (deduct 0) (back 1 5000 600000) (placed 10000))\n";
-    let counts = [3, 1, 2, 4, 0, 3, 5, 2];
-    let lines = counts.iter().zip(1..).map(|(&losses, month)| event(random, 30 * month, losses, 1));
-    Case::new("short year", table, lines.collect())
-}
-
-// The most lines that a text of 65,536 bytes holds: the statement's length is measured and does not fit.
-fn many_lines() -> Case {
-    Case::new("events without losses", &full_table(), "(event 1)\n".repeat(6_553))
-}
-
-const PAINT: u8 = 0xa5;
-const PAINTED: usize = 1 << 20;
-
-// Paints the stack below the caller and gives the lowest address painted.
-#[inline(never)]
-fn paint() -> usize {
-    let mut bytes = [0u8; PAINTED];
-    black_box(&mut bytes).fill(PAINT);
-    black_box(&bytes).as_ptr() as usize
-}
-
-// How far below this frame a run has written.
-#[inline(never)]
-fn stack_of(case: &Case, buffer: &mut [u8]) -> usize {
-    let frame = 0u8;
-    let top = black_box(&frame) as *const u8 as usize;
-    let low = paint();
-    let _ = black_box(case.by_engine(buffer));
-    let painted = |address: &usize| unsafe { (*address as *const u8).read_volatile() == PAINT };
-    top - (low..top).find(|address| !painted(address)).unwrap_or(top)
-}
-
-fn print_stack(cases: &[Case]) {
-    std::thread::scope(|scope| {
-        let body = || {
-            let mut buffer = vec![0; ROOM];
-            for case in cases {
-                println!("stack of a run, {}: {} bytes", case.name, stack_of(case, &mut buffer));
-            }
-        };
-        let thread = std::thread::Builder::new().stack_size(4 * PAINTED).spawn_scoped(scope, body);
-        thread.expect("a thread").join().expect("the runs");
-    });
+fn print_names() {
+    let single = CASES.iter().filter(|(_, draw)| draw().texts.len() == 1);
+    single.for_each(|(name, _)| println!("{name}"));
 }
 
 fn main() {
-    let mut random = Random(0x9e37_79b9_7f4a_7c15);
-    let cases = [full_year(&mut random), short_year(&mut random), many_lines()];
-    cases.iter().for_each(Case::print);
-    print_stack(&cases);
+    let arguments: Vec<String> = env::args().skip(1).collect();
+    match arguments.iter().map(String::as_str).collect::<Vec<_>>()[..] {
+        ["names"] => print_names(),
+        ["count", name, "engine"] => case_named(name).by_engine(&mut vec![0; ROOM]),
+        ["count", name, "yardstick"] => case_named(name).by_yardstick(&mut vec![0; ROOM]),
+        [] => {
+            drawn_years::compare_years();
+            print_times();
+            print_refused();
+            stack::measure();
+        }
+        _ => panic!("call as run_events, run_events names or run_events count CASE SIDE"),
+    }
 }

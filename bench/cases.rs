@@ -1,0 +1,172 @@
+// The cases of the benchmark of runs: a table and what is run under it, the same in every run.
+#[path = "random.rs"]
+mod random;
+
+use crate::sides::Sides;
+use random::Random;
+use std::fmt::Write;
+
+pub const EVENTS_BYTES: usize = 65_536;
+const LAST_DAY: u64 = 366;
+const SEED: u64 = 0x9e37_79b9_7f4a_7c15;
+
+// Texts that are run one after the other, each in a fresh year.
+pub struct Case {
+    pub sides: Sides,
+    pub texts: Vec<Vec<u8>>,
+}
+
+// Every case by its name. A case is drawn when it is asked for.
+pub const CASES: [(&str, fn() -> Case); 13] = [
+    ("full", || Case::new(full_table(), [full_text(MIXED)])),
+    ("unreached", || Case::new(unreached_table(), [full_text(MIXED)])),
+    ("open", || Case::new(open_table(), [full_text(MIXED)])),
+    ("quota", || Case::new(quota_table(0), [full_text(CEDED)])),
+    ("capacity", || Case::new(quota_table(10_000_000), [full_text(CEDED)])),
+    ("surplus", || Case::new(surplus_table(), [full_text(CEDED)])),
+    ("large", || Case::new(large_table(), [full_text(LARGE)])),
+    ("one-loss", || Case::new(full_table(), [full_text(Draw { losses: 1, ..MIXED })])),
+    ("no-loss", || Case::new(full_table(), ["(event 1)\n".repeat(EVENTS_BYTES / 10)])),
+    ("short", || Case::new(short_table(), short_texts().take(1))),
+    ("one-event", || Case::new(short_table(), ["(event 40 (loss 1 50000000 45000000))\n".to_string()])),
+    ("empty", || Case::new(short_table(), [String::new()])),
+    ("short-years", || Case::new(short_table(), short_texts().take(10_000))),
+];
+
+// How the losses of a text are drawn: how many to an event, and from which numbers.
+#[derive(Clone, Copy)]
+struct Draw {
+    losses: usize,
+    treaties: [u64; 2],
+    maximum: [u64; 2],
+    least_amount: u64,
+}
+
+const MIXED: Draw = Draw { losses: 64, treaties: [0, 8], maximum: [1, 60_000_000], least_amount: 0 };
+const CEDED: Draw = Draw { treaties: [1, 1], ..MIXED };
+const LARGE: Draw = Draw { maximum: [LEAST_LARGE, 10 * LEAST_LARGE], least_amount: LEAST_LARGE, ..MIXED };
+const LEAST_LARGE: u64 = 1_000_000_000_000;
+
+impl Case {
+    fn new(table: String, texts: impl IntoIterator<Item = String>) -> Case {
+        let texts = texts.into_iter().map(String::into_bytes).collect();
+        Case { sides: Sides::new(table.as_bytes()), texts }
+    }
+
+    // The full table with a text of just so many bytes, most of it in events of eight losses.
+    pub fn of_length(length: usize) -> Case {
+        let draw = Draw { losses: 8, ..MIXED };
+        let losses = text(&mut Random(SEED), draw, 10, length - 100);
+        // Events without losses come before it, of ten bytes and of eleven.
+        let (left, longer) = (length - losses.len(), (length - losses.len()) % 10);
+        let shorter = (left - 11 * longer) / 10;
+        let before = "(event 1)\n".repeat(shorter) + &"(event 10)\n".repeat(longer);
+        Case::new(full_table(), [before + &losses])
+    }
+}
+
+fn event(random: &mut Random, draw: Draw, day: u64) -> String {
+    let mut line = format!("(event {day}");
+    for _ in 0..draw.losses {
+        let maximum = random.between(draw.maximum[0], draw.maximum[1]);
+        let treaty = random.between(draw.treaties[0], draw.treaties[1]);
+        let _ = write!(line, " (loss {treaty} {maximum} {})", random.between(draw.least_amount, maximum));
+    }
+    line + ")\n"
+}
+
+// As many events, a day each from a first one, as so many bytes hold.
+fn text(random: &mut Random, draw: Draw, first_day: u64, length: usize) -> String {
+    let mut events = String::new();
+    for day in first_day.. {
+        let line = event(random, draw, day.min(LAST_DAY));
+        if events.len() + line.len() > length {
+            break;
+        }
+        events += &line;
+    }
+    events
+}
+
+fn full_text(draw: Draw) -> String {
+    text(&mut Random(SEED), draw, 1, EVENTS_BYTES)
+}
+
+// A year of eight events.
+fn short_text(random: &mut Random) -> String {
+    let counts = [3, 1, 2, 4, 0, 3, 5, 2].into_iter().zip(1..);
+    let draws = counts.map(|(losses, month)| (Draw { losses, treaties: [0, 1], ..MIXED }, 30 * month));
+    draws.map(|(draw, day)| event(random, draw, day)).collect()
+}
+
+fn short_texts() -> impl Iterator<Item = String> {
+    let mut random = Random(SEED);
+    std::iter::repeat_with(move || short_text(&mut random))
+}
+
+// Eight treaties of both kinds.
+fn treaties(capacity: u64, limit: u64, retention: u64) -> String {
+    let mut table = String::new();
+    for number in (1..=8).step_by(2) {
+        let cede = 3_000 + 100 * number;
+        let _ = writeln!(table, "(quota {number} (cede {cede}) (capacity {capacity}) (event {limit}))");
+        let _ = writeln!(table, "(surplus {} (retain {retention}) (lines {number}) (event 0))", number + 1);
+    }
+    table
+}
+
+// So many layers one above the other.
+fn layers(tier: &str, count: u64, attachment: u64, limit: u64, deductible: u64, premium: u64) -> String {
+    let mut table = String::new();
+    for i in 0..count {
+        let (attachment, rate, placed) = (attachment + i * limit, 5_000 + 1_000 * i, 9_999 - 300 * i);
+        let (band, back) = (format!("(band {attachment} {limit})"), format!("(back 20 {rate} {premium})"));
+        let _ = writeln!(table, "({tier} {band} (deduct {deductible}) {back} (placed {placed}))");
+    }
+    table
+}
+
+// Eight layers in each tier, so that a loss meets several of them.
+fn full_table() -> String {
+    treaties(40_000_000, 900_000_000, 10_000_000)
+        + &layers("risk", 8, 2_000_000, 5_000_000, 5_000_000, 7_500_001)
+        + &layers("cat", 8, 50_000_000, 150_000_000, 150_000_000, 7_500_001)
+}
+
+// Attachments above every loss, and above every event.
+fn unreached_table() -> String {
+    treaties(40_000_000, 900_000_000, 10_000_000)
+        + &layers("risk", 8, 1_000_000_000, 5_000_000, 5_000_000, 7_500_001)
+        + &layers("cat", 8, 10_000_000_000, 150_000_000, 150_000_000, 7_500_001)
+}
+
+// No layer comes to its cap: seven risk layers have a large deductible, the eighth a large limit.
+fn open_table() -> String {
+    treaties(40_000_000, 900_000_000, 10_000_000)
+        + &layers("risk", 7, 2_000_000, 5_000_000, 1_000_000_000_000, 7_500_001)
+        + &layers("risk", 1, 37_000_000, 1_000_000_000, 0, 7_500_001)
+        + &layers("cat", 8, 50_000_000, 150_000_000, 2_600_000_000, 7_500_001)
+}
+
+fn quota_table(capacity: u64) -> String {
+    format!("(quota 1 (cede 4000) (capacity {capacity}) (event 0))\n")
+}
+
+fn surplus_table() -> String {
+    "(surplus 1 (retain 3000000) (lines 9) (event 0))\n".to_string()
+}
+
+// Amounts up to the largest, 10^13 cents.
+fn large_table() -> String {
+    treaties(4 * LEAST_LARGE, 10 * LEAST_LARGE, LEAST_LARGE)
+        + &layers("risk", 8, 300_000_000_000, 800_000_000_000, 800_000_000_000, 999_999_999_999)
+        + &layers("cat", 8, 2 * LEAST_LARGE, LEAST_LARGE, LEAST_LARGE, 999_999_999_999)
+}
+
+fn short_table() -> String {
+    "(quota 1 (cede 4000) (capacity 40000000) (event 90000000))\n\
+    (risk (band 10000000 15000000) (deduct 0) (back 1 10000 750000) (placed 9000))\n\
+    (cat (band 20000000 30000000) (deduct 0) (back 1 10000 900000) (placed 8000))\n\
+    (cat (band 50000000 50000000) (deduct 0) (back 1 5000 600000) (placed 10000))\n"
+        .to_string()
+}

@@ -1,0 +1,58 @@
+"""Counts the instructions of one run of each case of bench/run_events.rs, by engine and yardstick, under callgrind.
+
+Called as `count.py PROGRAM FOLDER`: the program that bench/run built, and a folder for what callgrind writes. Only what
+runs inside the outermost function of a side is counted. The engine's memset is told apart: it fills work space, and
+what it costs in time is not one instruction like another.
+"""
+
+import subprocess
+import sys
+
+OUTERMOST = {"engine": "cession_run", "yardstick": "run_events::yardstick::run"}
+
+
+def by_function(path):
+    """The instructions of each function in a file of callgrind's, without those of the functions that it calls."""
+    names, counts, function, is_call = {}, {}, "", False
+    for line in open(path, encoding="utf-8"):
+        if line.startswith(("fn=", "cfn=")):
+            kind, _, text = line.strip().partition("=")
+            # A name stands beside its number where the number comes first, here or as that of a function called.
+            number, _, name = text.partition(" ")
+            names.setdefault(number, name)
+            function = names[number] if kind == "fn" else function
+        elif line.startswith("calls="):
+            is_call = True
+        elif line[0] in "0123456789+-*":
+            if not is_call:
+                counts[function] = counts.get(function, 0) + int(line.split()[1])
+            is_call = False
+    return counts
+
+
+def count(program, folder, case, side):
+    """All instructions of a run, and those of them in memset."""
+    path = f"{folder}/callgrind.{case}.{side}"
+    options = ["--tool=callgrind", f"--toggle-collect={OUTERMOST[side]}", f"--callgrind-out-file={path}"]
+    subprocess.run(["valgrind", "-q", *options, program, "count", case, side], check=True)
+    counts = by_function(path)
+    total = sum(counts.values())
+    if total == 0:
+        sys.exit(f"count.py: nothing counted in {path}: is {OUTERMOST[side]} there?")
+    return total, sum(number for name, number in counts.items() if "memset" in name)
+
+
+def main():
+    """A line for each case."""
+    program, folder = sys.argv[1:]
+    names = subprocess.run([program, "names"], check=True, capture_output=True, text=True).stdout.split()
+    print("| case | engine, instructions | of them memset | yardstick | ratio | ratio without memset |")
+    print("|---|---:|---:|---:|---:|---:|")
+    for case in names:
+        ours, memset = count(program, folder, case, "engine")
+        theirs, _ = count(program, folder, case, "yardstick")
+        ratios = f"{ours / theirs:.2f} | {(ours - memset) / theirs:.2f}"
+        print(f"| {case} | {ours} | {memset} | {theirs} | {ratios} |", flush=True)
+
+
+main()

@@ -1,0 +1,79 @@
+// The two sides of the benchmark of runs: the engine through its C call, and the yardstick.
+use crate::calculation;
+use crate::raw;
+use crate::yardstick;
+
+// Lent in every run: it holds the longest statement of all cases.
+pub const ROOM: usize = 4 << 20;
+
+// A table as each side takes it.
+pub struct Sides {
+    engine: raw::Programme,
+    yardstick: yardstick::Programme,
+}
+
+// A year as each side keeps it.
+#[derive(Clone, Default)]
+pub struct Year {
+    pub engine: raw::Standing,
+    pub yardstick: yardstick::Standing,
+}
+
+pub struct Rooms {
+    engine: Vec<u8>,
+    yardstick: Vec<u8>,
+}
+
+impl Rooms {
+    pub fn new() -> Rooms {
+        Rooms { engine: vec![0; ROOM], yardstick: vec![0; ROOM] }
+    }
+}
+
+impl Year {
+    fn is_same(&self) -> bool {
+        let yardstick::Standing { risk, cat, day } = self.yardstick;
+        self.engine == raw::Standing { risk, cat, day }
+    }
+}
+
+impl Sides {
+    pub fn new(table: &[u8]) -> Sides {
+        let reading = unsafe { raw::cession_read(table.as_ptr(), table.len()) };
+        assert_eq!(reading.refusal, 0, "{}", String::from_utf8_lossy(table));
+        let second = calculation::read_table(table).expect("a table");
+        Sides { engine: reading.programme, yardstick: yardstick::Programme::new(&second) }
+    }
+
+    pub fn answer(&self, standing: &mut raw::Standing, events: &[u8], buffer: &mut [u8]) -> raw::Answer {
+        let (text, room) = (events.as_ptr(), buffer.as_mut_ptr());
+        unsafe { raw::cession_run(self.engine, standing, text, events.len(), room, buffer.len()) }
+    }
+
+    // A run of the engine's that is accepted; gives the statement's length.
+    pub fn by_engine(&self, standing: &mut raw::Standing, events: &[u8], buffer: &mut [u8]) -> usize {
+        let answer = self.answer(standing, events, buffer);
+        assert_eq!(answer.refusal, 0, "the engine refuses a run");
+        answer.number as usize
+    }
+
+    pub fn by_yardstick(&self, standing: &mut yardstick::Standing, events: &[u8], buffer: &mut [u8]) -> usize {
+        yardstick::run(&self.yardstick, standing, events, buffer)
+    }
+
+    // A programme that no table reads to, for runs that are refused with 6.
+    pub fn broken(mut self) -> Sides {
+        self.engine.cat.count = 9;
+        self
+    }
+
+    // Runs events on both sides and fails where statement or standing differ; gives the statement.
+    pub fn compare<'a>(&self, year: &mut Year, events: &[u8], rooms: &'a mut Rooms) -> &'a [u8] {
+        let ours = self.by_engine(&mut year.engine, events, &mut rooms.engine);
+        let theirs = self.by_yardstick(&mut year.yardstick, events, &mut rooms.yardstick);
+        let (ours, theirs) = (&rooms.engine[..ours], &rooms.yardstick[..theirs]);
+        assert!(ours == theirs, "the statements differ for\n{}", String::from_utf8_lossy(events));
+        assert!(year.is_same(), "the standings differ for\n{}", String::from_utf8_lossy(events));
+        ours
+    }
+}

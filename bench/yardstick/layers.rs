@@ -1,0 +1,129 @@
+//! Excess layers: what is brought to them, recovered and charged.
+
+use super::programme::{part, MOST_LAYERS, WHOLE};
+use crate::calculation::table;
+
+/// A layer's terms. `back` is its limit times its reinstatements, `price` rate times premium, and `divisor` the limit
+/// in basis points.
+#[derive(Default)]
+pub struct Layer {
+    attachment: u64,
+    limit: u64,
+    deductible: u64,
+    cap: u64,
+    back: u64,
+    price: u64,
+    divisor: u64,
+    placed: u64,
+}
+
+/// What a layer or a tier has recovered and charged.
+#[derive(Clone, Copy, Default)]
+pub struct Paid {
+    pub recovered: u64,
+    pub premium: u64,
+}
+
+/// A layer's line of the statement.
+pub struct Figures {
+    pub deductible: u64,
+    pub cover: u64,
+    pub paid: Paid,
+}
+
+impl Layer {
+    pub fn new(layer: &table::Layer) -> Layer {
+        Layer {
+            attachment: layer.attachment,
+            limit: layer.limit,
+            deductible: layer.deductible,
+            cap: layer.cap(),
+            back: layer.limit * layer.reinstatements,
+            price: layer.rate * layer.premium,
+            divisor: WHOLE * layer.limit,
+            placed: layer.placed,
+        }
+    }
+
+    fn paid(&self, spent: u64) -> Paid {
+        let used = spent.saturating_sub(self.deductible);
+        if used == 0 {
+            return Paid::default();
+        }
+        let reinstated = used.min(self.back) * self.placed / WHOLE;
+        Paid { recovered: used * self.placed / WHOLE, premium: part(reinstated, self.price, self.divisor) }
+    }
+
+    fn figures(&self, account: &Account) -> Figures {
+        Figures {
+            deductible: self.deductible.saturating_sub(account.spent),
+            cover: self.cap - account.spent.max(self.deductible),
+            paid: account.paid,
+        }
+    }
+}
+
+/// A layer in a run: the losses of the event under way are added to `sum`, and all else is of the events before it.
+#[derive(Clone, Copy, Default)]
+struct Account {
+    sum: u64,
+    spent: u64,
+    paid: Paid,
+}
+
+/// The layers of one tier in a run.
+pub struct Tier<'a> {
+    layers: &'a [Layer],
+    accounts: [Account; MOST_LAYERS],
+}
+
+impl<'a> Tier<'a> {
+    pub fn new(layers: &'a [Layer], spent: &[u64; MOST_LAYERS]) -> Tier<'a> {
+        let mut accounts = [Account::default(); MOST_LAYERS];
+        for ((account, layer), spent) in accounts.iter_mut().zip(layers).zip(spent) {
+            *account = Account { sum: *spent, spent: *spent, paid: layer.paid(*spent) };
+        }
+        Tier { layers, accounts }
+    }
+
+    /// Brings each layer its part of a subject amount. Attachments rise, so the first that is not exceeded ends it.
+    #[inline(always)]
+    pub fn bring(&mut self, subject: u64) {
+        for (layer, account) in self.layers.iter().zip(&mut self.accounts) {
+            if subject <= layer.attachment {
+                break;
+            }
+            account.sum += layer.limit.min(subject - layer.attachment);
+        }
+    }
+
+    /// Cuts the sums off at the caps and gives what the tier recovers and charges for all that was brought.
+    pub fn settle(&mut self) -> Paid {
+        let mut tier = Paid::default();
+        for (layer, account) in self.layers.iter().zip(&mut self.accounts) {
+            // A layer that was brought nothing has none above it that was.
+            if account.sum == account.spent {
+                break;
+            }
+            account.sum = account.sum.min(layer.cap);
+            if account.sum != account.spent {
+                let paid = layer.paid(account.sum);
+                tier.recovered += paid.recovered - account.paid.recovered;
+                tier.premium += paid.premium - account.paid.premium;
+                *account = Account { sum: account.sum, spent: account.sum, paid };
+            }
+        }
+        tier
+    }
+
+    pub fn figures(&self) -> impl Iterator<Item = Figures> + '_ {
+        self.layers.iter().zip(&self.accounts).map(|(layer, account)| layer.figures(account))
+    }
+
+    /// Leaves the spent amounts in a standing.
+    pub fn leave(&self, spent: &mut [u64; MOST_LAYERS]) {
+        for (spent, account) in spent.iter_mut().zip(&self.accounts) {
+            *spent = account.spent;
+        }
+    }
+}

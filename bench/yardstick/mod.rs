@@ -1,0 +1,131 @@
+//! The yardstick: a run of events as an ordinary fast Rust program does it, in one pass over the text and without
+//! allocating. It trusts what it is given: a programme that a table reads to, a standing of that programme, an events
+//! text that is accepted, and a buffer that holds the statement.
+
+mod layers;
+mod programme;
+mod reader;
+mod treaties;
+mod writer;
+
+use layers::Tier;
+pub use programme::Programme;
+use programme::{MOST_LAYERS, NUMBERS};
+use reader::Reader;
+use writer::Writer;
+
+/// The powers of ten that a word holds.
+const POWERS: [u64; 20] = {
+    let mut powers = [1; 20];
+    let mut place = 1;
+    while place < powers.len() {
+        powers[place] = 10 * powers[place - 1];
+        place += 1;
+    }
+    powers
+};
+
+/// Each layer's spent amount, by tier and place, and the last day run.
+#[derive(Clone, Default, PartialEq, Eq, Debug)]
+pub struct Standing {
+    pub risk: [u64; MOST_LAYERS],
+    pub cat: [u64; MOST_LAYERS],
+    pub day: u64,
+}
+
+#[derive(Default)]
+struct Amounts {
+    gross: u64,
+    ceded: u64,
+    risk: u64,
+    cat: u64,
+    net: u64,
+    premium: u64,
+}
+
+impl Amounts {
+    fn add(&mut self, event: &Amounts) {
+        self.gross += event.gross;
+        self.ceded += event.ceded;
+        self.risk += event.risk;
+        self.cat += event.cat;
+        self.net += event.net;
+        self.premium += event.premium;
+    }
+}
+
+/// A run under way: what each treaty, by its number, has been ceded, and the layers.
+struct Run<'a> {
+    programme: &'a Programme,
+    ceded: [u64; NUMBERS],
+    risk: Tier<'a>,
+    cat: Tier<'a>,
+}
+
+impl Run<'_> {
+    /// Books the losses that come next in the text. What the layers of a tier recover and charge is taken once for
+    /// the event: one loss's recovery is the figure after it less the figure before it, so the differences add up.
+    fn event(&mut self, text: &mut Reader) -> Amounts {
+        let mut amounts = Amounts::default();
+        let mut earlier = [0; NUMBERS];
+        while let Some(loss) = text.loss() {
+            let ceded = self.programme.treaties[loss.treaty].ceded(&loss, earlier[loss.treaty]);
+            earlier[loss.treaty] += loss.amount;
+            self.ceded[loss.treaty] += ceded;
+            amounts.gross += loss.amount;
+            amounts.ceded += ceded;
+            self.risk.bring(loss.amount - ceded);
+        }
+        if amounts.gross == 0 {
+            return amounts;
+        }
+        let risk = self.risk.settle();
+        let subject = amounts.gross - amounts.ceded - risk.recovered;
+        self.cat.bring(subject);
+        let cat = self.cat.settle();
+        amounts.risk = risk.recovered;
+        amounts.cat = cat.recovered;
+        amounts.net = subject - cat.recovered;
+        amounts.premium = risk.premium + cat.premium;
+        amounts
+    }
+
+    fn contracts<'a>(&self, statement: Writer<'a>) -> Writer<'a> {
+        let mut statement = statement;
+        for number in self.programme.numbers() {
+            statement = statement.treaty(number as u64, self.ceded[number]);
+        }
+        for (place, figures) in (1..).zip(self.risk.figures()) {
+            statement = statement.layer(b"(layer risk ", place, &figures);
+        }
+        for (place, figures) in (1..).zip(self.cat.figures()) {
+            statement = statement.layer(b"(layer cat ", place, &figures);
+        }
+        statement
+    }
+}
+
+/// Runs an events text, moves the standing on, writes the statement into the buffer and gives its length.
+#[inline(never)]
+pub fn run(programme: &Programme, standing: &mut Standing, events: &[u8], buffer: &mut [u8]) -> usize {
+    let mut run = Run {
+        programme,
+        ceded: [0; NUMBERS],
+        risk: Tier::new(programme.risk(), &standing.risk),
+        cat: Tier::new(programme.cat(), &standing.cat),
+    };
+    let mut text = Reader(events);
+    let room = buffer.len();
+    let mut statement = Writer(buffer);
+    let mut total = Amounts::default();
+    while let Some(day) = text.event() {
+        let amounts = run.event(&mut text);
+        total.add(&amounts);
+        statement = statement.event(day, &amounts);
+        standing.day = day;
+    }
+    let rest = run.contracts(statement).total(&total);
+    run.risk.leave(&mut standing.risk);
+    run.cat.leave(&mut standing.cat);
+    room - rest.0.len()
+}

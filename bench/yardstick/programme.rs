@@ -1,0 +1,58 @@
+//! A programme as the yardstick keeps it: the table's numbers, and those products of them that every loss needs.
+
+use super::layers::Layer;
+use super::treaties::Treaty;
+use crate::calculation;
+
+pub const MOST_LAYERS: usize = 8;
+/// Treaties stand at their number; 0 is the number of no treaty.
+pub const NUMBERS: usize = 9;
+pub const WHOLE: u64 = 10_000;
+
+#[derive(Default)]
+pub struct Programme {
+    pub treaties: [Treaty; NUMBERS],
+    risk: [Layer; MOST_LAYERS],
+    risk_count: usize,
+    cat: [Layer; MOST_LAYERS],
+    cat_count: usize,
+}
+
+impl Programme {
+    /// A programme from a table that the second calculation has read.
+    pub fn new(table: &calculation::Programme) -> Programme {
+        let mut programme =
+            Programme { risk_count: table.risk.len(), cat_count: table.cat.len(), ..Programme::default() };
+        for treaty in &table.treaties {
+            programme.treaties[treaty.number as usize] = Treaty::new(treaty);
+        }
+        for (ours, layer) in programme.risk.iter_mut().zip(&table.risk) {
+            *ours = Layer::new(layer);
+        }
+        for (ours, layer) in programme.cat.iter_mut().zip(&table.cat) {
+            *ours = Layer::new(layer);
+        }
+        programme
+    }
+
+    pub fn risk(&self) -> &[Layer] {
+        &self.risk[..self.risk_count]
+    }
+
+    pub fn cat(&self) -> &[Layer] {
+        &self.cat[..self.cat_count]
+    }
+
+    /// The numbers of the treaties, rising.
+    pub fn numbers(&self) -> impl Iterator<Item = usize> + '_ {
+        (1..NUMBERS).filter(|number| !self.treaties[*number].is_none())
+    }
+}
+
+/// An amount times a share of it, rounded down. Most products fit into 64 bits; the quotient always does.
+pub fn part(amount: u64, share: u64, whole: u64) -> u64 {
+    match amount.checked_mul(share) {
+        Some(product) => product / whole,
+        None => (u128::from(amount) * u128::from(share) / u128::from(whole)) as u64,
+    }
+}
