@@ -30,7 +30,7 @@ use std::time::Instant;
 
 const ROUNDS: usize = 101;
 // A round takes the yardstick about so long, in nanoseconds.
-const ROUND_TIME: f64 = 500_000.0;
+const ROUND_TIME: f64 = 1_000_000.0;
 
 impl Case {
     fn by_engine(&self, room: &mut [u8]) {

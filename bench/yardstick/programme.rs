@@ -49,7 +49,7 @@ impl Programme {
     }
 }
 
-/// An amount times a share of it, rounded down. Most products fit into 64 bits; the quotient always does.
+/// The share of an amount, rounded down after the whole product. Most products fit into 64 bits, every quotient does.
 pub fn part(amount: u64, share: u64, whole: u64) -> u64 {
     match amount.checked_mul(share) {
         Some(product) => product / whole,
