@@ -16,8 +16,10 @@ pub struct Case {
     pub texts: Vec<Vec<u8>>,
 }
 
-// Every case by its name. A case is drawn when it is asked for.
-pub const CASES: [(&str, fn() -> Case); 13] = [
+// A case's name, and the case, drawn when it is asked for.
+type Named = (&'static str, fn() -> Case);
+
+pub const CASES: [Named; 13] = [
     ("full", || Case::new(full_table(), [full_text(MIXED)])),
     ("unreached", || Case::new(unreached_table(), [full_text(MIXED)])),
     ("open", || Case::new(open_table(), [full_text(MIXED)])),
@@ -60,8 +62,9 @@ impl Case {
         // Events without losses come before it, of ten bytes and of eleven.
         let (left, longer) = (length - losses.len(), (length - losses.len()) % 10);
         let shorter = (left - 11 * longer) / 10;
-        let before = "(event 1)\n".repeat(shorter) + &"(event 10)\n".repeat(longer);
-        Case::new(full_table(), [before + &losses])
+        let events = "(event 1)\n".repeat(shorter) + &"(event 10)\n".repeat(longer) + &losses;
+        assert_eq!(events.len(), length);
+        Case::new(full_table(), [events])
     }
 }
 

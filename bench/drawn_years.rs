@@ -22,9 +22,8 @@ struct Reached {
 }
 
 impl Reached {
-    fn count(&mut self, before: &Year, statement: &[u8], is_second: bool) {
+    fn count(&mut self, statement: &[u8], is_second: bool, begins_partly_spent: bool) {
         let amounts = totals(statement).expect("a total");
-        let spent = before.engine.risk.iter().chain(&before.engine.cat).any(|spent| *spent > 0);
         self.runs += 1;
         self.ceded += usize::from(amounts[1] > 0);
         self.risk += usize::from(amounts[2] > 0);
@@ -32,7 +31,7 @@ impl Reached {
         self.premium += usize::from(amounts[5] > 0);
         self.caps += usize::from(has_cap_reached(statement));
         self.second_runs += usize::from(is_second);
-        self.partly_spent += usize::from(spent);
+        self.partly_spent += usize::from(begins_partly_spent);
     }
 
     fn print(&self) {
@@ -44,7 +43,7 @@ impl Reached {
             ("premium", self.premium),
             ("a layer at its cap", self.caps),
             ("second runs", self.second_runs),
-            ("layers partly spent before", self.partly_spent),
+            ("layers partly spent before them", self.partly_spent),
         ];
         for (name, count) in named {
             assert!(count > 0, "no random year reached: {name}");
@@ -75,9 +74,9 @@ fn compare_year(random: &mut Random, rooms: &mut Rooms, reached: &mut Reached) {
         let (count, pause) = (random.pick(&[0, 1, 2, 3, 5, 8, 13, 21]), random.between(0, 40));
         let first_day = (year.engine.day + pause).clamp(1, 366);
         let events = draw::events(random, scale, &table, count, first_day).concat();
-        let before = year.clone();
+        let begins_partly_spent = sides.has_partly_spent(&year);
         let statement = sides.compare(&mut year, &events, rooms);
-        reached.count(&before, statement, run > 1);
+        reached.count(statement, run > 1, begins_partly_spent);
     }
 }
 

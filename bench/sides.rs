@@ -13,7 +13,7 @@ pub struct Sides {
 }
 
 // A year as each side keeps it.
-#[derive(Clone, Default)]
+#[derive(Default)]
 pub struct Year {
     pub engine: raw::Standing,
     pub yardstick: yardstick::Standing,
@@ -61,10 +61,17 @@ impl Sides {
         yardstick::run(&self.yardstick, standing, events, buffer)
     }
 
-    // A programme that no table reads to, for runs that are refused with 6.
-    pub fn broken(mut self) -> Sides {
+    // Whether some layer has been brought losses and is below its cap.
+    pub fn has_partly_spent(&self, year: &Year) -> bool {
+        let cap = |terms: &raw::Terms| terms.deductible + terms.limit * (terms.reinstatements + 1);
+        let tiers = [(&self.engine.risk, &year.engine.risk), (&self.engine.cat, &year.engine.cat)];
+        let mut layers = tiers.iter().flat_map(|(layers, spent)| layers.places.iter().zip(*spent));
+        layers.any(|(terms, spent)| *spent > 0 && *spent < cap(terms))
+    }
+
+    // Makes the engine's programme one that no table reads to, so that runs are refused with 6.
+    pub fn spoil(&mut self) {
         self.engine.cat.count = 9;
-        self
     }
 
     // Runs events on both sides and fails where statement or standing differ; gives the statement.

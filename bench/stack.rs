@@ -26,13 +26,13 @@ fn stack_of(case: &Case, buffer: &mut [u8]) -> (usize, u64) {
 }
 
 fn print_stacks() {
-    let full = Case::of_length(EVENTS_BYTES);
-    let broken = Case { sides: Case::of_length(EVENTS_BYTES).sides.broken(), texts: full.texts.clone() };
+    let mut spoilt = Case::of_length(EVENTS_BYTES);
+    spoilt.sides.spoil();
     let cases = [
-        ("refused with 6", broken, 6),
+        ("refused with 6", spoilt, 6),
         ("1,000 bytes of events", Case::of_length(1_000), 0),
         ("8,190 bytes", Case::of_length(8_190), 0),
-        ("65,536 bytes", full, 0),
+        ("65,536 bytes", Case::of_length(EVENTS_BYTES), 0),
     ];
     let mut buffer = vec![0; ROOM];
     for (name, case, refusal) in &cases {

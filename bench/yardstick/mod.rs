@@ -26,7 +26,7 @@ const POWERS: [u64; 20] = {
 };
 
 /// Each layer's spent amount, by tier and place, and the last day run.
-#[derive(Clone, Default, PartialEq, Eq, Debug)]
+#[derive(Default)]
 pub struct Standing {
     pub risk: [u64; MOST_LAYERS],
     pub cat: [u64; MOST_LAYERS],
