@@ -1,8 +1,8 @@
 """Counts the instructions of one run of each case of bench/run_events.rs, by engine and yardstick, under callgrind.
 
 Called as `count.py PROGRAM FOLDER`: the program that bench/run built, and a folder for what callgrind writes. Only
-what runs inside the outermost function of a side is counted. The engine's memset is told apart: callgrind counts a long
-one byte by byte, so that its share of the instructions is not its share of the time.
+what runs inside the outermost function of a side is counted. The engine's memset is told apart: callgrind counts a
+long one byte by byte, so that its share of the instructions is not its share of the time.
 """
 
 import subprocess
