@@ -18,7 +18,9 @@ use Rattle.year.specs.declared.Standing.{Standing}
 use Rattle.year.specs.Standing.{standingPasses}
 use Rattle.year.specs.Statement.{amountsNumbers, treatyShown, layerLineOf}
 use Rattle.year.specs.Run.{Outcome, runThrough, answerOf, bufferAfter, standingAfter}
+use Rattle.statement.specs.declared.row.Form.the-variants.{Event}
 use Rattle.statement.specs.Numbers.{numbersOf, layersNumbers, cededLine}
+use Rattle.statement.specs.Forms.{widthOf, restWidth}
 use Rattle.booking.specs.declared.progress.Progress.{Progress}
 use Rattle.booking.specs.Records.{SoundRecords}
 use Rattle.engine.specs.declared.run.Ran.{Ran}
@@ -60,6 +62,7 @@ pub record CanRun (n : ℕ) (p : Programme) (s : Standing) (text : List ℕ) : T
   pub standing : standingPasses (contractsIn p) s ≡ true
   pub short : length text ≤ n
 
--- a place for each of a statement's numbers: seven for each ten bytes of the text, and 102
+-- a place for each of a statement's numbers: those of an event for each ten bytes of the text, and of all lines after
+-- the events'
 pub record PlacesFor (text kept : List ℕ) : Type 0 where
-  pub room : 7 * length text + 1020 ≤ 10 * length kept
+  pub room : widthOf Event * length text + 10 * restWidth ≤ 10 * length kept

@@ -7,6 +7,7 @@ ghost use Rattle.programme.specs.Contracts.{treatiesIn};
 ghost use Rattle.text.specs.Buffer.{Put};
 ghost use Rattle.year.specs.Statement.{Statement};
 ghost use Rattle.year.specs.Run.{refused, fitted, runOf, bufferAfter};
+ghost use Rattle.statement.specs.Forms.{restWidth};
 ghost use Rattle.statement.specs.Shows.{Fits, Shows};
 ghost use Rattle.engine.specs.Run.{ranOf, writtenRan, RanAs, runLines, restNumbers, CanKeep, CanRun, PlacesFor};
 use booking::progress::Progress;
@@ -19,6 +20,7 @@ use programme::valid;
 use statement::keep;
 use statement::print;
 use statement::print::Counts;
+use statement::row;
 use year::Standing;
 
 // What a run gives back: its answer, and the standing after it, which is the one lent where it is refused.
@@ -55,25 +57,13 @@ fn keep_rest(kept: &mut [u64], treaties: Treaties, cessions: &[u64], progress: P
     requires { ⌜ CanKeep treaties (now cessions) progress ⌝ }
     ensures { λ r. ⌜ Put (now (kept .entry)) (progress .kept)
         (restNumbers (treatiesIn treaties) (now (cessions .entry)) progress) (now (kept .exit)) r
-        × (r ≤ progress .kept + 102) ⌝ }
+        × (r ≤ progress .kept + restWidth) ⌝ }
 {
     let records = progress.records;
-    let total = progress.total;
     let risk = keep::keep_treaties(kept, progress.kept, treaties, cessions);
     let cat = keep::keep_layers(kept, risk, records.risk);
     let last = keep::keep_layers(kept, cat, records.cat);
-    scratch::keep(
-        kept,
-        last,
-        &[
-            total.gross,
-            total.ceded,
-            total.risk,
-            total.cat,
-            total.net,
-            total.premium,
-        ],
-    )
+    keep::keep_total(kept, last, progress.total)
 }
 
 // The statement of the numbers kept: measured, and written if it fits.
@@ -134,7 +124,7 @@ fn through(
     }
     let progress = passed.progress;
     let counts = Counts {
-        events: progress.kept / 7,
+        events: progress.kept / row::EVENT,
         treaties: treaties.count,
         risk: programme.risk.count,
         cat: programme.cat.count,
@@ -150,7 +140,7 @@ fn short(programme: Programme, standing: Standing, events: &[u8], buffer: &mut [
     ensures { λ r. ⌜ RanAs (runLines programme standing (now (events .entry)) (length (now (buffer .entry))))
         standing (now (buffer .entry)) (now (buffer .exit)) r ⌝ }
 {
-    let mut kept = [0u64; 819];
+    let mut kept = [0u64; row::EVENT * 1024 / 10 + row::REST + 1];
     through(programme, standing, events, buffer, &mut kept)
 }
 
@@ -160,7 +150,7 @@ fn medium(programme: Programme, standing: Standing, events: &[u8], buffer: &mut 
     ensures { λ r. ⌜ RanAs (runLines programme standing (now (events .entry)) (length (now (buffer .entry))))
         standing (now (buffer .entry)) (now (buffer .exit)) r ⌝ }
 {
-    let mut kept = [0u64; 5837];
+    let mut kept = [0u64; row::EVENT * 8192 / 10 + row::REST + 1];
     through(programme, standing, events, buffer, &mut kept)
 }
 
@@ -170,7 +160,7 @@ fn long(programme: Programme, standing: Standing, events: &[u8], buffer: &mut [u
     ensures { λ r. ⌜ RanAs (runLines programme standing (now (events .entry)) (length (now (buffer .entry))))
         standing (now (buffer .entry)) (now (buffer .exit)) r ⌝ }
 {
-    let mut kept = [0u64; 45978];
+    let mut kept = [0u64; row::EVENT * 65536 / 10 + row::REST + 1];
     through(programme, standing, events, buffer, &mut kept)
 }
 

@@ -15,7 +15,7 @@ use Rattle.text.proofs.Puts.{put-whole, put-append}
 use Rattle.text.proofs.Pieces.{Piecing, none-pieced, field-put, piece-put, rest-pieced, last-put}
 use Rattle.year.specs.Statement.{eventTemplate, treatyTemplate, riskTemplate, catTemplate, totalTemplate}
 use Rattle.statement.specs.Forms.{templateOf, widthOf, amountsTail, lastTail, figuresTail}
-use Rattle.statement.specs.declared.print.Form.{Form}
+use Rattle.statement.specs.declared.row.Form.{Form}
 
 -- a piece, and a number
 pub both-put : {d d₁ d₂ : List ℕ} {at a₁ end : ℕ} (p : List ℕ) (n : ℕ) → Put d at p d₁ a₁ → Put d₁ a₁ (digits n) d₂ end

@@ -1,11 +1,11 @@
 -- Document 01, Events and statement: the kinds of a statement's lines.
 -- Assumes nothing.
 use mathlib.Core.List.{List}
-use Prim.Native.Nat.{ℕ}
+use Prim.Native.Nat.{ℕ, _+_, _*_}
 use Rattle.text.specs.Bytes.{bytes}
 use Rattle.year.specs.Statement.{eventTemplate, treatyTemplate, riskTemplate, catTemplate, totalTemplate}
-use Rattle.statement.specs.declared.print.Form.{Form}
-use Rattle.statement.specs.declared.print.Form.the-variants.{Event, Treaty, Risk, Cat, Total}
+use Rattle.statement.specs.declared.row.Form.{Form}
+use Rattle.statement.specs.declared.row.Form.the-variants.{Event, Treaty, Risk, Cat, Total}
 
 -- the template of a kind
 abbrev pub templateOf : Form → List ℕ
@@ -22,6 +22,10 @@ widthOf Treaty = 2
 widthOf Risk = 5
 widthOf Cat = 5
 widthOf Total = 6
+
+-- the most numbers that the lines after the events' have: of eight treaties, of eight layers a tier and of the totals
+abbrev pub restWidth : ℕ
+restWidth = 8 * widthOf Treaty + 8 * widthOf Risk + 8 * widthOf Cat + widthOf Total
 
 -- what ends an event's template and the totals'
 abbrev pub amountsTail : List ℕ

@@ -1,3 +1,3 @@
 pub mod Numbers
-pub mod Shows
 pub mod Forms
+pub mod Shows

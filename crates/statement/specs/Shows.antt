@@ -6,7 +6,9 @@ use Prim.Native.Nat.{ℕ, _+_, _*_, _^_, _≤_, _<_}
 use lib.ListN.{length}
 use Rattle.year.specs.Statement.{Statement, linesShown}
 use Rattle.statement.specs.declared.print.Counts.{Counts}
+use Rattle.statement.specs.declared.row.Form.the-variants.{Event, Treaty, Risk, Cat, Total}
 use Rattle.statement.specs.Numbers.{numbersOf}
+use Rattle.statement.specs.Forms.{widthOf}
 
 -- how many lines these are, with that of the totals
 abbrev pub linesIn : Counts → ℕ
@@ -14,7 +16,12 @@ linesIn c = c .events + c .treaties + c .risk + c .cat + 1
 
 -- as many numbers as lines of these counts have, with the line of the totals
 pub record Fits (ns : List ℕ) (c : Counts) : Type 0 where
-  pub numbers : length ns ≡ 7 * c .events + 2 * c .treaties + 5 * c .risk + 5 * c .cat + 6
+  pub numbers : length ns
+      ≡ widthOf Event * c .events
+      + widthOf Treaty * c .treaties
+      + widthOf Risk * c .risk
+      + widthOf Cat * c .cat
+      + widthOf Total
   pub events : c .events < 2 ^ 16
   pub treaties : c .treaties ≤ 8
   pub risk : c .risk ≤ 8

@@ -8,9 +8,12 @@ ghost use Rattle.text.specs.Number.{digits};
 ghost use Rattle.text.specs.Template.{filled};
 ghost use Rattle.year.specs.Statement.{eventTemplate, treatyTemplate, riskTemplate, catTemplate, totalTemplate};
 ghost use Rattle.year.specs.Statement.{Statement, statementText};
+ghost use Rattle.statement.specs.declared.row.Form.the-variants.{Event, Treaty, Risk, Cat, Total};
 ghost use Rattle.statement.specs.Numbers.{rowsText};
 ghost use Rattle.statement.specs.Forms.{templateOf, widthOf, amountsTail, lastTail, figuresTail};
 ghost use Rattle.statement.specs.Shows.{linesIn, Fits, Shows};
+use crate::row;
+use crate::row::Form;
 use text::buffer;
 use text::number;
 
@@ -20,28 +23,6 @@ pub struct Counts {
     pub treaties: usize,
     pub risk: usize,
     pub cat: usize,
-}
-
-// The kinds of lines.
-pub enum Form {
-    Event,
-    Treaty,
-    Risk,
-    Cat,
-    Total,
-}
-
-// How many numbers a line has.
-fn width(form: Form) -> usize
-    ensures { λ r. ⌜ r ≡ widthOf form ⌝ }
-{
-    match form {
-        Form::Event => 7,
-        Form::Treaty => 2,
-        Form::Risk => 5,
-        Form::Cat => 5,
-        Form::Total => 6,
-    }
 }
 
 // A piece of a line and the number after it, which stands at a place of the line's numbers, where there is room for
@@ -82,7 +63,7 @@ fn put_amounts(out: &mut [u8], at: usize, row: &[u64], from: usize) -> usize
 
 // The figures that end a layer's line, and the line feed.
 fn put_figures(out: &mut [u8], at: usize, row: &[u64]) -> usize
-    requires { ⌜ (at + 129 ≤ length (now out)) × (5 ≤ length (now row)) ⌝ }
+    requires { ⌜ (at + 129 ≤ length (now out)) × (widthOf Risk ≤ length (now row)) ⌝ }
     ensures { λ r. ⌜ Put (now (out .entry)) at (filled figuresTail (drop 1 (now (row .entry))) (10 ∷ []))
         (now (out .exit)) r × (r ≤ at + 129) ⌝ }
 {
@@ -95,7 +76,7 @@ fn put_figures(out: &mut [u8], at: usize, row: &[u64]) -> usize
 
 // The line of an event, with its line feed, where there is room for one: 60 bytes and seven numbers.
 fn put_event(out: &mut [u8], at: usize, row: &[u64]) -> usize
-    requires { ⌜ (at + 200 ≤ length (now out)) × (7 ≤ length (now row)) ⌝ }
+    requires { ⌜ (at + 200 ≤ length (now out)) × (widthOf Event ≤ length (now row)) ⌝ }
     ensures { λ r. ⌜ Put (now (out .entry)) at (filled eventTemplate (now (row .entry)) (10 ∷ []))
         (now (out .exit)) r × (r ≤ at + 200) ⌝ }
 {
@@ -105,7 +86,7 @@ fn put_event(out: &mut [u8], at: usize, row: &[u64]) -> usize
 
 // That of a treaty.
 fn put_treaty(out: &mut [u8], at: usize, row: &[u64]) -> usize
-    requires { ⌜ (at + 200 ≤ length (now out)) × (2 ≤ length (now row)) ⌝ }
+    requires { ⌜ (at + 200 ≤ length (now out)) × (widthOf Treaty ≤ length (now row)) ⌝ }
     ensures { λ r. ⌜ Put (now (out .entry)) at (filled treatyTemplate (now (row .entry)) (10 ∷ []))
         (now (out .exit)) r × (r ≤ at + 200) ⌝ }
 {
@@ -116,7 +97,7 @@ fn put_treaty(out: &mut [u8], at: usize, row: &[u64]) -> usize
 
 // That of a risk layer.
 fn put_risk(out: &mut [u8], at: usize, row: &[u64]) -> usize
-    requires { ⌜ (at + 200 ≤ length (now out)) × (5 ≤ length (now row)) ⌝ }
+    requires { ⌜ (at + 200 ≤ length (now out)) × (widthOf Risk ≤ length (now row)) ⌝ }
     ensures { λ r. ⌜ Put (now (out .entry)) at (filled riskTemplate (now (row .entry)) (10 ∷ []))
         (now (out .exit)) r × (r ≤ at + 200) ⌝ }
 {
@@ -126,7 +107,7 @@ fn put_risk(out: &mut [u8], at: usize, row: &[u64]) -> usize
 
 // That of a catastrophe layer.
 fn put_cat(out: &mut [u8], at: usize, row: &[u64]) -> usize
-    requires { ⌜ (at + 200 ≤ length (now out)) × (5 ≤ length (now row)) ⌝ }
+    requires { ⌜ (at + 200 ≤ length (now out)) × (widthOf Cat ≤ length (now row)) ⌝ }
     ensures { λ r. ⌜ Put (now (out .entry)) at (filled catTemplate (now (row .entry)) (10 ∷ []))
         (now (out .exit)) r × (r ≤ at + 200) ⌝ }
 {
@@ -136,7 +117,7 @@ fn put_cat(out: &mut [u8], at: usize, row: &[u64]) -> usize
 
 // That of the totals.
 fn put_total(out: &mut [u8], at: usize, row: &[u64]) -> usize
-    requires { ⌜ (at + 200 ≤ length (now out)) × (6 ≤ length (now row)) ⌝ }
+    requires { ⌜ (at + 200 ≤ length (now out)) × (widthOf Total ≤ length (now row)) ⌝ }
     ensures { λ r. ⌜ Put (now (out .entry)) at (filled totalTemplate (now (row .entry)) (10 ∷ []))
         (now (out .exit)) r × (r ≤ at + 200) ⌝ }
 {
@@ -196,7 +177,7 @@ fn put_lines(
         (rowsText (templateOf form) (widthOf form) count (drop from (now (numbers .entry)))) (now (out .exit)) r
         × (r ≤ at + 200 * count) ⌝ }
 {
-    let wide = width(form);
+    let wide = row::width(form);
     let mut next = at;
     let mut begin = from;
     let mut i: usize = 0;
@@ -215,10 +196,10 @@ pub fn put_statement(out: &mut [u8], numbers: &[u64], counts: Counts) -> usize
     ensures { λ r. ⌜ ((t : Statement) → Shows t (now (numbers .entry)) counts
         → Put (now (out .entry)) 0 (statementText t) (now (out .exit)) r) × (r ≤ 200 * linesIn counts) ⌝ }
 {
-    let treaties = 7 * counts.events;
-    let risk = treaties + 2 * counts.treaties;
-    let cat = risk + 5 * counts.risk;
-    let total = cat + 5 * counts.cat;
+    let treaties = row::EVENT * counts.events;
+    let risk = treaties + row::TREATY * counts.treaties;
+    let cat = risk + row::LAYER * counts.risk;
+    let total = cat + row::LAYER * counts.cat;
     let first = put_lines(out, 0, Form::Event, counts.events, numbers, 0);
     let second = put_lines(out, first, Form::Treaty, counts.treaties, numbers, treaties);
     let third = put_lines(out, second, Form::Risk, counts.risk, numbers, risk);

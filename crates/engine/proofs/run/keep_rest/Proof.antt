@@ -14,11 +14,8 @@ keep-layers-requires c κs = search needs
 keep-layers-requires-2 : tie.Need-keep-layers-requires-2
 keep-layers-requires-2 c κs = search needs
 
-slice-aggregate-keep : tie.Need-slice-aggregate-keep
-slice-aggregate-keep c = search needs
-
-keep-requires : tie.Need-keep-requires
-keep-requires c κs = search needs
+keep-total-requires : tie.Need-keep-total-requires
+keep-total-requires c κs = search needs
 
 same-length : tie.Need-same-length
 same-length c = search needs
@@ -33,7 +30,6 @@ keep-rest-spec =
     keep-treaties-requires
     keep-layers-requires
     keep-layers-requires-2
-    slice-aggregate-keep
-    keep-requires
+    keep-total-requires
     same-length
     returns)
