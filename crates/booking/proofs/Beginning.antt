@@ -2,7 +2,7 @@
 -- Assumes nothing.
 use mathlib.Core.Path.{_≡_, refl}
 use mathlib.Core.Bool.{true}
-use mathlib.Core.List.{List}
+use mathlib.Core.List.{List, []}
 use Prim.Native.Nat.{ℕ}
 use Rattle.lists.specs.Places.{inPlaces}
 use Rattle.layer.specs.declared.tier.Tier.{Tier}
@@ -11,7 +11,9 @@ use Rattle.programme.specs.declared.contract.Programme.{Programme}
 use Rattle.programme.specs.Contracts.{layersIn, contractsIn}
 use Rattle.programme.specs.Valid.{valid}
 use Rattle.programme.proofs.Validity.{valid-tells}
+use Rattle.year.specs.declared.Amounts.{Amounts}
 use Rattle.year.specs.declared.Standing.{Standing}
+use Rattle.year.specs.Statement.{added}
 use Rattle.year.specs.Standing.{spentOf, standingOf, layersWith, standingPasses}
 use Rattle.standings.proofs.Sound.{tier-sound, standing-tests}
 use Rattle.booking.specs.declared.progress.Records.{Records}
@@ -21,13 +23,14 @@ use Rattle.booking.specs.Progress.{FirstOf}
 pub begins : (p : Programme) (s : Standing) → valid p ≡ true → standingPasses (contractsIn p) s ≡ true
     → (risk cat : Tier) → layersOf risk ≡ layersWith (layersIn (p .risk)) (s .risk) → risk .count ≡ p .risk .count
     → layersOf cat ≡ layersWith (layersIn (p .cat)) (s .cat) → cat .count ≡ p .cat .count
+    → (total : Amounts) → total ≡ added []
     → FirstOf p s (record {
       records = record { risk = risk; cat = cat };
       day = s .day;
-      total = record { gross = 0; ceded = 0; risk = 0; cat = 0; net = 0; premium = 0 };
+      total = total;
       kept = 0;
     })
-begins p s v g risk cat a m b n =
+begins p s v g risk cat a m b n total t =
     let valids = valid-tells p v in
     let tests = standing-tests (contractsIn p) s g in
     record {
@@ -37,7 +40,7 @@ begins p s v g risk cat a m b n =
         cat = tier-sound (p .cat) (s .cat) cat (valids .2) (tests .1) b n;
       };
       day = refl;
-      total = refl;
+      total = t;
       kept = refl;
     }
 

@@ -1,5 +1,5 @@
 pub mod EventBounds
 pub mod EventBooked
-pub mod Quiet
+pub mod Idle
 pub mod Booking
 pub mod Beginning

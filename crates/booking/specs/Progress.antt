@@ -55,10 +55,6 @@ pub record Booked (ts : List Treaty) (p : Progress) (e : Event) (d d′ cs cs′
       (eventNumbers (record { day = e .day; amounts = eventAmounts ts (yearIn (p .records)) e })) d′ (r .kept)
   pub cessions : cs′ ≡ cededAdded ts [] cs (e .losses)
 
--- the numbers of the line of an event without losses
-abbrev pub quietNumbers : (day : ℕ) → List ℕ
-quietNumbers day = day ∷ 0 ∷ 0 ∷ 0 ∷ 0 ∷ 0 ∷ 0 ∷ []
-
 -- what each treaty cedes of events, added to the amounts cs, one for each number T
 abbrev pub cededThrough : List Treaty → List ℕ → List Event → List ℕ
 cededThrough ts cs [] = cs

@@ -9,18 +9,19 @@ ghost use Rattle.treaty.specs.declared.Loss.{Loss};
 ghost use Rattle.treaty.specs.Losses.{leftOfEach};
 ghost use Rattle.programme.specs.Contracts.{contractsIn};
 ghost use Rattle.programme.specs.Valid.{valid};
-ghost use Rattle.year.specs.Statement.{added};
+ghost use Rattle.year.specs.Statement.{added, eventNumbers};
 ghost use Rattle.year.specs.Standing.{standingOf, standingPasses};
 ghost use Rattle.losses.specs.Register.{numbered};
 ghost use Rattle.losses.specs.Cede.{lossesFrom, AfterTreaties};
 ghost use Rattle.booking.specs.Records.{yearIn, SoundRecords};
-ghost use Rattle.booking.specs.Progress.{RoomForMore, CanEnter, CanBook, Booked, FirstOf, quietNumbers};
+ghost use Rattle.booking.specs.Progress.{RoomForMore, CanEnter, CanBook, Booked, FirstOf};
 use layer::tier::Tier;
 use losses::cede;
 use losses::cede::Ceded;
 use losses::register::ByNumber;
 use programme::contract::Programme;
 use standings::records;
+use statement::keep;
 use year::Amounts;
 use year::Standing;
 
@@ -45,12 +46,27 @@ fn total_with(total: Amounts, event: Amounts) -> Amounts
     }
 }
 
-// Keeps the numbers of the line of an event without losses; its amounts are all 0.
-pub fn keep_quiet(kept: &mut [u64], at: usize, day: u64) -> usize
-    requires { ⌜ at < 2 ^ 32 ⌝ }
-    ensures { λ r. ⌜ Put (now (kept .entry)) at (quietNumbers day) (now (kept .exit)) r ⌝ }
+// The amounts of an event without losses, and the totals before the first event.
+fn no_amounts() -> Amounts
+    ensures { λ r. ⌜ r ≡ added [] ⌝ }
 {
-    scratch::keep(kept, at, &[day, 0, 0, 0, 0, 0, 0])
+    Amounts {
+        gross: 0,
+        ceded: 0,
+        risk: 0,
+        cat: 0,
+        net: 0,
+        premium: 0,
+    }
+}
+
+// Keeps the numbers of the line of an idle event, one without losses.
+pub fn keep_idle(kept: &mut [u64], at: usize, day: u64) -> usize
+    requires { ⌜ at < 2 ^ 32 ⌝ }
+    ensures { λ r. ⌜ Put (now (kept .entry)) at (eventNumbers (record { day = day; amounts = added [] }))
+        (now (kept .exit)) r ⌝ }
+{
+    keep::keep_event(kept, at, day, no_amounts())
 }
 
 // `kept` is the place after the numbers of the events so far.
@@ -77,14 +93,7 @@ impl Progress {
                 cat: records::tier_with(cat, cat_spent),
             },
             day: standing.day,
-            total: Amounts {
-                gross: 0,
-                ceded: 0,
-                risk: 0,
-                cat: 0,
-                net: 0,
-                premium: 0,
-            },
+            total: no_amounts(),
             kept: 0,
         }
     }
@@ -129,11 +138,7 @@ impl Progress {
             premium,
         };
         let total = total_with(self.total, amounts);
-        let next = scratch::keep(
-            kept,
-            self.kept,
-            &[day, ceded.gross, ceded.ceded, by_risk, by_cat, net, premium],
-        );
+        let next = keep::keep_event(kept, self.kept, day, amounts);
         let risk = after_risk.tier;
         let cat = after_cat.tier;
         Progress {

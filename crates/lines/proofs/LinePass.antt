@@ -30,18 +30,18 @@ use Rattle.events.specs.declared.form.LossForm.the-variants as form
 use Rattle.events.specs.Read.{EventsRead, turnedDown, events, eventBefore, unlessFault, readFrom}
 use Rattle.events.proofs.LossForms.{no-event, no-loss-form, further, event-read, event-open, bracket-left}
 use Rattle.events.proofs.Reading.{EventLawful, event-lawful}
-use Rattle.year.specs.Statement.{totals, amountsNumbers}
+use Rattle.year.specs.Statement.{added, totals, amountsNumbers, eventNumbers}
 use Rattle.losses.specs.declared.register.Register.{Register}
 use Rattle.losses.specs.Register.{numbered, lackAt}
 use Rattle.losses.specs.Cede.{lossesFrom, cededAdded}
 use Rattle.losses.proofs.Added.{added-length, added-le}
 use Rattle.booking.specs.declared.progress.Progress.{Progress}
 use Rattle.booking.specs.Records.{yearIn}
-use Rattle.booking.specs.Progress.{CanBook, Booked, Stands, quietNumbers}
+use Rattle.booking.specs.Progress.{CanBook, Booked, Stands}
 use Rattle.losses.proofs.RegisterFacts.{treaties, cedes, by-number, places-terms, lack-le, nine-lacks}
 use Rattle.losses.proofs.RegisterFacts.{lacking-same}
 use Rattle.booking.proofs.EventBounds.{tier-layers, Bookable, amounts-le}
-use Rattle.booking.proofs.Quiet.{quiet-booked}
+use Rattle.booking.proofs.Idle.{idle-booked}
 use Rattle.booking.proofs.Booking.{one-booked, amounts-added-le}
 use Rattle.lines.specs.declared.pass.Passed.{Passed}
 use Rattle.lines.specs.Pass.{CanPass, passIs}
@@ -366,14 +366,15 @@ module _ (register : Register) (start : Progress) (text d₀ cs₀ lacks ns : Li
                 rest = onward event (read is-closed) fine ∙ rw (booked .day);
               }
 
-          -- an event without losses, the numbers of whose line were kept
-          pub goes-on-quiet : count ≡ 0 → (next : ℕ) (d′ : List ℕ) → Put d (p .kept) (quietNumbers day) d′ next
+          -- an idle event, the numbers of whose line were kept
+          pub goes-on-idle : count ≡ 0 → (next : ℕ) (d′ : List ℕ)
+              → Put d (p .kept) (eventNumbers (record { day = day; amounts = added [] })) d′ next
               → length d′ ≡ length d
               → Going register start text d₀ cs₀ lacks ns′
               (record { records = p .records; day = day; total = p .total; kept = next }) d′ cs (number + 1) (e + 1)
-          goes-on-quiet zero-losses next d′ put same =
+          goes-on-idle zero-losses next d′ put same =
               goes-on _ d′ cs
-              (λ ts q. rw zero-losses (quiet-booked ts p (g .stands .sound) day next d d′ cs put)) same
+              (λ ts q. rw zero-losses (idle-booked ts p (g .stands .sound) day next d d′ cs put)) same
 
 -- a place that is and is not before the end
 pub not-both : {C : Type 0} {m n : ℕ} → m < n → n ≤ m → C

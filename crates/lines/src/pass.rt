@@ -86,7 +86,7 @@ pub fn pass(
         }
         at = end + 1;
         if count == 0 {
-            let next = progress::keep_quiet(kept, progress.kept, day);
+            let next = progress::keep_idle(kept, progress.kept, day);
             progress.day = day;
             progress.kept = next;
         } else {

@@ -200,8 +200,8 @@ returns-3 c =
 add-at : tie.Need-add-at Inv-losses μ-losses Inv-lines μ-lines
 add-at c = search needs
 
-keep-quiet-requires : tie.Need-keep-quiet-requires Inv-losses μ-losses Inv-lines μ-lines
-keep-quiet-requires c κs =
+keep-idle-requires : tie.Need-keep-idle-requires Inv-losses μ-losses Inv-lines μ-lines
+keep-idle-requires c κs =
     let fine = c .before .before in
     let fault = fine .before in
     let closing = fault .before in
@@ -227,8 +227,8 @@ lines-less c =
 
 lines-again : tie.Need-lines-again Inv-losses μ-losses Inv-lines μ-lines
 lines-again c =
-    let quiet = c .before .before in
-    let fine = quiet .before .before .before in
+    let idle = c .before .before in
+    let fine = idle .before .before .before in
     let fault = fine .before in
     let closing = fault .before in
     let ended = closing .before in
@@ -237,10 +237,10 @@ lines-again c =
     let line = headed .before in
     let tested = line .before in
     let lines = tested .before in
-    law.goes-on-quiet _ _ _ _ _ _ _ _ _ _ _ _ (lines .lines .inv) _ (line .end .ensures .0)
+    law.goes-on-idle _ _ _ _ _ _ _ _ _ _ _ _ (lines .lines .inv) _ (line .end .ensures .0)
     (tested .lines-test .taken) (line .end .ensures .2) (headed .if1 .left) _ _ _ _ _ _ (listed .losses .inv)
     (ended .losses-test .left) _ (closing .closes .ensures) _ (fault .fault .ensures) (fine .if2 .left)
-    (quiet .before .before .if3 .taken) _ _ (quiet .keep-quiet .ensures) (quiet .keep-quiet .kept .0)
+    (idle .before .before .if3 .taken) _ _ (idle .keep-idle .ensures) (idle .keep-idle .kept .0)
 
 mul-losses : tie.Need-mul-losses Inv-losses μ-losses Inv-lines μ-lines
 mul-losses c = search needs
@@ -396,7 +396,7 @@ pass-spec =
     same-length-6
     returns-3
     add-at
-    keep-quiet-requires
+    keep-idle-requires
     lines-less
     lines-again
     mul-losses

@@ -46,11 +46,8 @@ total-with-requires c κs =
     law.amounts-room _ _ _ (start .pre) _ (by-risk .bear .ensures) _ (search needs) _ (by-cat .bear2 .ensures) _
     (search needs) _ _ (c .before .cents3 .ensures) (c .cents4 .ensures)
 
-slice-aggregate-keep : tie.Need-slice-aggregate-keep
-slice-aggregate-keep c = search needs
-
-keep-requires : tie.Need-keep-requires
-keep-requires c κs = search needs
+keep-event-requires : tie.Need-keep-event-requires
+keep-event-requires c κs = search needs
 
 same-length : tie.Need-same-length
 same-length c = search needs
@@ -74,7 +71,6 @@ enter-spec =
     cents-requires-4
     add-premium
     total-with-requires
-    slice-aggregate-keep
-    keep-requires
+    keep-event-requires
     same-length
     returns)

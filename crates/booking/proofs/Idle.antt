@@ -1,4 +1,4 @@
--- An event without losses leaves the layers and the totals as they are.
+-- An idle event, one without losses, leaves the layers and the totals as they are.
 -- Assumes nothing.
 use mathlib.Core.Path.{_≡_, refl, sym, ap, _∙_, subst}
 use mathlib.Core.List.{List, [], _∷_}
@@ -16,11 +16,13 @@ use Rattle.year.specs.Event.{Year, subjectOf, eventAfter, eventAmounts}
 use Rattle.year.specs.Statement.{added, eventNumbers}
 use Rattle.booking.specs.declared.progress.Progress.{Progress}
 use Rattle.booking.specs.Records.{yearIn, SoundRecords}
-use Rattle.booking.specs.Progress.{Booked, quietNumbers}
+use Rattle.booking.specs.Progress.{Booked}
 
--- no amounts
-abbrev none : Amounts
-none = record { gross = 0; ceded = 0; risk = 0; cat = 0; net = 0; premium = 0 }
+-- the numbers of the line of amounts that are none
+pub idle-kept : (day : ℕ) {a : Amounts} {d d′ : List ℕ} {at next : ℕ} → a ≡ added []
+    → Put d at (eventNumbers (record { day = day; amounts = a })) d′ next
+    → Put d at (eventNumbers (record { day = day; amounts = added [] })) d′ next
+idle-kept day e p = rw e at p
 
 -- a subject of 0 reaches no layer
 from-zero : (ls : List Layer) → From 0 ls
@@ -28,8 +30,8 @@ from-zero [] = tt
 from-zero (y ∷ ys) = (zero-le, from-zero ys)
 
 module _ (ts : List Treaty) (p : Progress) (sound : SoundRecords (p .records)) (day : ℕ) where
-  abbrev quiet : Event
-  quiet = record { day = day; losses = [] }
+  abbrev idle : Event
+  idle = record { day = day; losses = [] }
 
   abbrev cats : List Layer
   cats = layersOf (p .records .cat)
@@ -37,13 +39,13 @@ module _ (ts : List Treaty) (p : Progress) (sound : SoundRecords (p .records)) (
   reached : Unreached (0 ∷ []) cats
   reached = unreached-from (0 ∷ []) 0 (zero-le, tt) cats (from-zero cats)
 
-  year-same : yearIn (p .records) ≡ eventAfter ts (yearIn (p .records)) quiet
+  year-same : yearIn (p .records) ≡ eventAfter ts (yearIn (p .records)) idle
   unfolding subjectOf
   year-same =
       let cat = sym (layers-unreached (0 ∷ []) cats (sound .cat .each) reached) in
       λ i. record { risk = layersOf (p .records .risk); cat = cat i }
 
-  amounts-none : none ≡ eventAmounts ts (yearIn (p .records)) quiet
+  amounts-none : added [] ≡ eventAmounts ts (yearIn (p .records)) idle
   unfolding subjectOf
   amounts-none =
       let cat : 0 ≡ recoveriesBy 0 cats = omega (arith, recoveries-unreached (0 ∷ []) cats (sound .cat .each) reached) in
@@ -51,7 +53,7 @@ module _ (ts : List Treaty) (p : Progress) (sound : SoundRecords (p .records)) (
       omega (arith, charges-unreached (0 ∷ []) cats (sound .cat .each) reached) in
       λ i. record { gross = 0; ceded = 0; risk = 0; cat = cat i; net = 0 - cat i; premium = charged i }
 
-  total-same : p .total ≡ added (p .total ∷ none ∷ [])
+  total-same : p .total ≡ added (p .total ∷ added [] ∷ [])
   total-same i = record {
     gross = alone (p .total .gross) i;
     ceded = alone (p .total .ceded) i;
@@ -64,9 +66,9 @@ module _ (ts : List Treaty) (p : Progress) (sound : SoundRecords (p .records)) (
       alone : (m : ℕ) → m ≡ m + (0 + 0)
       alone m = omega arith
 
-  pub quiet-booked : (next : ℕ) (d d′ cs : List ℕ) → Put d (p .kept) (quietNumbers day) d′ next
-      → Booked ts p quiet d d′ cs cs (record { records = p .records; day = day; total = p .total; kept = next })
-  quiet-booked next d d′ cs put = record {
+  pub idle-booked : (next : ℕ) (d d′ cs : List ℕ) → Put d (p .kept) (eventNumbers (record { day = day; amounts = added [] })) d′ next
+      → Booked ts p idle d d′ cs cs (record { records = p .records; day = day; total = p .total; kept = next })
+  idle-booked next d d′ cs put = record {
     year = year-same;
     sound = sound;
     day = refl;
