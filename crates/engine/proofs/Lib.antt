@@ -1,4 +1,5 @@
 pub mod Writing
 pub mod Stating
 pub mod RunLines
+pub mod Placing
 pub mod RunTests

@@ -164,6 +164,30 @@ fn long(programme: Programme, standing: Standing, events: &[u8], buffer: &mut [u
     through(programme, standing, events, buffer, &mut kept)
 }
 
+// The same with places by the text's length. A buffer shorter than every statement is as good as none, and this is why
+// the function calls itself on an empty part of it: LLVM puts no callee with more than 1,024 bytes of locals into a
+// function that calls itself, and no function that calls itself into another. So `short`, `medium` and `long` each keep
+// their frame, and a short text does not take the stack of a long one.
+fn placed(programme: Programme, standing: Standing, events: &[u8], buffer: &mut [u8]) -> Ran
+    requires { ⌜ CanRun 65536 programme standing (now events) ⌝ }
+    ensures { λ r. ⌜ RanAs (runLines programme standing (now (events .entry)) (length (now (buffer .entry))))
+        standing (now (buffer .entry)) (now (buffer .exit)) r ⌝ }
+{
+    let room = buffer.len();
+    if 0 < room {
+        if room < print::SHORTEST {
+            return placed(programme, standing, events, &mut buffer[..0]);
+        }
+    }
+    if events.len() <= 1024 {
+        return short(programme, standing, events, buffer);
+    }
+    if events.len() <= 8192 {
+        return medium(programme, standing, events, buffer);
+    }
+    long(programme, standing, events, buffer)
+}
+
 // Runs an events text under a programme, from a standing on.
 pub fn run(programme: Programme, standing: Standing, events: &[u8], buffer: &mut [u8]) -> Ran
     ensures { λ r. ⌜ (r
@@ -181,11 +205,5 @@ pub fn run(programme: Programme, standing: Standing, events: &[u8], buffer: &mut
     if 65536 < events.len() {
         return refused(9, 0, standing);
     }
-    if events.len() <= 1024 {
-        return short(programme, standing, events, buffer);
-    }
-    if events.len() <= 8192 {
-        return medium(programme, standing, events, buffer);
-    }
-    long(programme, standing, events, buffer)
+    placed(programme, standing, events, buffer)
 }

@@ -16,9 +16,9 @@ use Rattle.text.specs.Number.{digits, digitsIn}
 use Rattle.text.specs.Template.{capital, holes, filled}
 use Rattle.text.proofs.Puts.{put-append}
 use Rattle.text.proofs.Feeds.{joined-append}
-use Rattle.text.proofs.Lengths.{filled-size}
+use Rattle.text.proofs.Lengths.{filled-long, filled-size}
 use Rattle.year.specs.Statement.{Line, EventLine, TreatyLine, LayerLine, Statement, lineText, eventShown, treatyShown}
-use Rattle.year.specs.Statement.{layersShown, totalShown, linesShown, statementText}
+use Rattle.year.specs.Statement.{layersShown, amountsNumbers, totalShown, linesShown, statementText}
 use Rattle.year.specs.Statement.{eventTemplate, treatyTemplate, riskTemplate, catTemplate, totalTemplate}
 use Rattle.statement.specs.declared.print.Counts.{Counts}
 use Rattle.statement.specs.Numbers.{numbersOf, layersNumbers, rowsText}
@@ -251,6 +251,13 @@ statement-size ns c r e t h =
     let all = five-size (totalShown (t .total)) q₁ q₂ q₃ q₄ q₅ (kind-size q₁ 60 refl refl) (kind-size q₂ 19 refl refl)
     (kind-size q₃ 61 refl refl) (kind-size q₄ 60 refl refl) (kind-size q₅ 59 refl refl) in
     omega (arith, all, e, ap digitsIn (h .numbers))
+
+-- it has the line of the totals, and with it 65 bytes or more
+pub statement-long : (t : Statement) → 65 ≤ length (statementText t)
+unfolding statementText
+statement-long t =
+    simp (map-append, joined-append, length-append)
+    (omega (arith, filled-long totalTemplate (amountsNumbers (t .total)) []))
 
 -- each line has at most 200 bytes
 pub lines-short : (c : Counts) {first second third fourth end : ℕ} → first ≤ 0 + 200 * c .events

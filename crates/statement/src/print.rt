@@ -207,6 +207,9 @@ pub fn put_statement(out: &mut [u8], numbers: &[u64], counts: Counts) -> usize
     put_lines(out, fourth, Form::Total, 1, numbers, total)
 }
 
+// The fewest bytes that it has: those of the totals' line, each number one digit, with its line feed.
+pub const SHORTEST: usize = 65;
+
 // How many bytes it has: those that stand for themselves in each kind of line, with its line feed, and the digits.
 pub fn measure(numbers: &[u64], counts: Counts) -> usize
     requires { ⌜ Fits (now numbers) counts ⌝ }

@@ -47,59 +47,9 @@ returns-3 c =
     law.too-long _ _ _ (start .args .buffer .now) _ (held .holds .ensures) (valid .if1 .taken) _
     (tested .passes .ensures) (standing .if2 .taken) (c .before .if3 .taken) _ (c .refused3 .ensures)
 
-short-requires : tie.Need-short-requires
-short-requires c κs =
-    let standing = c .before .before .before in
-    let tested = standing .before in
-    let valid = tested .before in
-    let held = valid .before in
-    let start = held .before .before .before in
-    law.can-run _ _ _ (start .args .buffer .now) _ (held .holds .ensures) (valid .if1 .taken) _
-    (tested .passes .ensures) (standing .if2 .taken) _ (c .before .if4 .taken)
-
-same-length : tie.Need-same-length
-same-length c = search needs
-
-returns-4 : tie.Need-returns-4
-returns-4 c =
-    let ran = c .before .before in
-    let fits = ran .before .before .before in
-    let standing = fits .before in
-    let tested = standing .before in
-    let valid = tested .before in
-    let held = valid .before in
-    let start = held .before .before .before in
-    law.by-lines _ _ _ (start .args .buffer .now) _ (held .holds .ensures) (valid .if1 .taken) _
-    (tested .passes .ensures) (standing .if2 .taken) (fits .if3 .left) _ _ (ran .short .ensures)
-
-medium-requires : tie.Need-medium-requires
-medium-requires c κs =
-    let standing = c .before .before .before .before in
-    let tested = standing .before in
-    let valid = tested .before in
-    let held = valid .before in
-    let start = held .before .before .before in
-    law.can-run _ _ _ (start .args .buffer .now) _ (held .holds .ensures) (valid .if1 .taken) _
-    (tested .passes .ensures) (standing .if2 .taken) _ (c .before .if5 .taken)
-
-same-length-2 : tie.Need-same-length-2
-same-length-2 c = search needs
-
-returns-5 : tie.Need-returns-5
-returns-5 c =
-    let ran = c .before .before in
-    let fits = ran .before .before .before .before in
-    let standing = fits .before in
-    let tested = standing .before in
-    let valid = tested .before in
-    let held = valid .before in
-    let start = held .before .before .before in
-    law.by-lines _ _ _ (start .args .buffer .now) _ (held .holds .ensures) (valid .if1 .taken) _
-    (tested .passes .ensures) (standing .if2 .taken) (fits .if3 .left) _ _ (ran .medium .ensures)
-
-long-requires : tie.Need-long-requires
-long-requires c κs =
-    let fits = c .before .before .before in
+placed-requires : tie.Need-placed-requires
+placed-requires c κs =
+    let fits = c .before in
     let standing = fits .before in
     let tested = standing .before in
     let valid = tested .before in
@@ -108,20 +58,20 @@ long-requires c κs =
     law.can-run _ _ _ (start .args .buffer .now) _ (held .holds .ensures) (valid .if1 .taken) _
     (tested .passes .ensures) (standing .if2 .taken) _ (fits .if3 .left)
 
-same-length-3 : tie.Need-same-length-3
-same-length-3 c = search needs
+same-length : tie.Need-same-length
+same-length c = search needs
 
-returns-6 : tie.Need-returns-6
-returns-6 c =
+returns-4 : tie.Need-returns-4
+returns-4 c =
     let ran = c .before .before in
-    let fits = ran .before .before .before .before in
+    let fits = ran .before .before in
     let standing = fits .before in
     let tested = standing .before in
     let valid = tested .before in
     let held = valid .before in
     let start = held .before .before .before in
     law.by-lines _ _ _ (start .args .buffer .now) _ (held .holds .ensures) (valid .if1 .taken) _
-    (tested .passes .ensures) (standing .if2 .taken) (fits .if3 .left) _ _ (ran .long .ensures)
+    (tested .passes .ensures) (standing .if2 .taken) (fits .if3 .left) _ _ (ran .placed .ensures)
 
 pub run-spec : {M : Type 1} → statement M
 run-spec =
@@ -135,12 +85,6 @@ run-spec =
     returns-2
     refused-requires-3
     returns-3
-    short-requires
+    placed-requires
     same-length
-    returns-4
-    medium-requires
-    same-length-2
-    returns-5
-    long-requires
-    same-length-3
-    returns-6)
+    returns-4)

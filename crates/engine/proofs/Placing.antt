@@ -1,0 +1,45 @@
+-- A buffer that is shorter than every statement is as good as none.
+-- Assumes nothing.
+use mathlib.Core.Path.{_≡_, refl, ap, _∙_}
+use mathlib.Core.List.{List, _++_}
+use Prim.Native.Nat.{ℕ, _<_}
+use native.Mathlib.Omega.{arith}
+use borrow.Author.Tests.{lt-ltb}
+use lib.ListN.{length}
+use Rattle.programme.specs.declared.contract.Programme.{Programme}
+use Rattle.programme.specs.Contracts.{Contracts, treatiesIn, contractsIn}
+use Rattle.text.proofs.Puts.{no-bytes}
+use Rattle.events.specs.Event.{formsOf}
+use Rattle.events.specs.Read.{EventsRead, turnedDown, events, readFrom}
+use Rattle.year.specs.declared.Standing.{Standing}
+use Rattle.year.specs.Statement.{Statement, statementText}
+use Rattle.year.specs.Run.{Outcome, refused, fitted, runThrough, bufferAfter}
+use Rattle.statement.proofs.Shown.{statement-long}
+use Rattle.engine.specs.declared.run.Ran.{Ran}
+use Rattle.engine.specs.Run.{ranOf, RanAs, runLines}
+
+-- no statement fits
+too-short : (room : ℕ) → room < 65 → (t : Statement) (s : Standing)
+    → fitted room t s ≡ refused 7 (length (statementText t))
+unfolding fitted
+too-short room h t s = simp (fitted, lt-ltb room (length (statementText t)) (omega (arith, statement-long t)))
+
+module _ (c : Contracts) (s : Standing) (room : ℕ) (h : room < 65) where
+  -- what a run comes to is what it comes to without a buffer
+  as-none : (o : EventsRead) → runThrough c s 0 o ≡ runThrough c s room o
+  as-none (turnedDown n w) = refl
+  as-none (events es) = rw (too-short 0 (omega arith), too-short room h)
+
+  -- and the buffer stays as it is
+  left-alone : (o : EventsRead) (d : List ℕ) → d ≡ bufferAfter (runThrough c s room o) d
+  left-alone (turnedDown n w) d = refl
+  left-alone (events es) d = rw (too-short room h)
+
+-- so a run with no bytes of the buffer, put back as e before the others, is that with the whole
+pub as-without : (p : Programme) (s : Standing) (text d e : List ℕ) (r : Ran) → length d < 65
+    → r ≡ ranOf (runLines p s text 0) s → length e ≡ 0 → RanAs (runLines p s text (length d)) s d (e ++ d) r
+as-without p s text d e r h a none =
+    let read = readFrom (treatiesIn (p .treaties)) 1 (s .day) (formsOf text) in (
+      a ∙ ap (λ (o : Outcome). ranOf o s) (as-none (contractsIn p) s (length d) h read),
+      no-bytes e d none ∙ left-alone (contractsIn p) s (length d) h read d,
+    )
