@@ -2,8 +2,9 @@
 -- Assumes nothing.
 use mathlib.Core.Path.{_≡_, refl, sym, ap, _∙_, subst}
 use mathlib.Core.List.{List, [], _∷_, _++_, map, map-append}
-use Prim.Native.Nat.{ℕ, _+_, _≤_}
+use Prim.Native.Nat.{ℕ, _+_, _*_, _≤_}
 use native.Mathlib.Omega.{arith}
+use lib.ListN.{length}
 use Rattle.lists.specs.Each.{Each}
 use Rattle.lists.proofs.Chains.{last-snoc}
 use Rattle.text.specs.Buffer.{Put}
@@ -14,13 +15,15 @@ use Rattle.year.specs.declared.Amounts.{Amounts}
 use Rattle.year.specs.Event.{Year, eventAfter, eventAmounts, yearAfter}
 use Rattle.year.specs.Statement.{EventLine, eventLines, added, totals, amountsNumbers, eventNumbers, eventShown}
 use Rattle.year.proofs.Parts.{year-append, event-lines-append, totals-append}
+use Rattle.year.proofs.Shown.{event-lines-length}
 use Rattle.losses.specs.Cede.{cededAdded}
+use Rattle.statement.specs.declared.row.Form.the-variants as form
 use Rattle.statement.specs.Numbers.{numbersOf}
-use Rattle.statement.proofs.Shown.{numbers-append}
+use Rattle.statement.specs.Forms.{widthOf}
+use Rattle.statement.proofs.Shown.{numbers-append, events-length}
 use Rattle.booking.specs.declared.progress.Progress.{Progress}
 use Rattle.booking.specs.Records.{yearIn}
-use Rattle.booking.specs.Progress.{Booked}
-use Rattle.booking.specs.Progress.{cededThrough, Stands}
+use Rattle.booking.specs.Progress.{Booked, cededThrough, Stands}
 
 -- the totals with those of one event more
 totals-next : (ls : List EventLine) (l : EventLine) → totals (ls ++ (l ∷ [])) ≡ added (totals ls ∷ l .amounts ∷ [])
@@ -85,6 +88,13 @@ module _ (ts : List Treaty) (start : Progress) (d₀ cs₀ : List ℕ) (es : Lis
     kept = rw (lines-now, numbers-next linesBefore lineNow) (put-append (s .kept) kept-now);
     cessions = b .cessions ∙ rw (s .cessions) (sym (ceded-next ts cs₀ es x));
   }
+
+-- how many numbers were kept of the events booked
+pub kept-of-events : {ts : List Treaty} {start p : Progress} {d₀ cs₀ d cs : List ℕ} {es : List Event}
+    → Stands ts start d₀ cs₀ es p d cs → p .kept ≡ widthOf form.Event * length es
+kept-of-events {ts} {start} {es = es} s =
+    let lines = eventLines ts (yearIn (start .records)) es in
+    omega (arith, s .kept .place, events-length lines, event-lines-length ts (yearIn (start .records)) es)
 
 -- amounts added to amounts that are at most b, and to the sum of two bounds
 pub amounts-added-le : (b c m : ℕ) (u v : Amounts) → b + c ≤ m → Each (λ (n : ℕ). n ≤ b) (amountsNumbers u)

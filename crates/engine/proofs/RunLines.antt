@@ -2,10 +2,10 @@
 -- Assumes nothing.
 use mathlib.Core.Path.{_≡_, refl, sym, ap, _∙_, subst}
 use mathlib.Core.Bool.{true}
-use mathlib.Core.List.{List, [], _∷_, map}
+use mathlib.Core.List.{List, [], _∷_}
 use Prim.Native.Nat.{ℕ, suc, _+_, _*_, _/_, _≤_, _<_}
 use native.Mathlib.Omega.{arith}
-use lib.ListN.{length, take, drop, replicate, length-map, length-append, length-replicate}
+use lib.ListN.{length, take, drop, replicate, length-map, length-replicate}
 use lib.Seq.{length-sets, length-take-le, take-at}
 use Rattle.lists.specs.Each.{Each}
 use Rattle.lists.proofs.Each.{each-so}
@@ -25,21 +25,24 @@ use Rattle.events.specs.Event.{Event, formsOf, lastDay}
 use Rattle.events.specs.Read.{EventsRead, turnedDown, events, readFrom}
 use Rattle.year.specs.declared.Standing.{Standing}
 use Rattle.year.specs.Event.{Year, yearAfter}
-use Rattle.year.specs.Statement.{EventLine, treatyLineOf, layerLineOf, Statement, statementOf}
-use Rattle.year.specs.Statement.{eventNumbers, eventShown, linesShown}
+use Rattle.year.specs.Statement.{treatyLineOf, layerLineOf, Statement, statementOf}
+use Rattle.year.specs.Statement.{linesShown}
 use Rattle.year.specs.Standing.{standingOf, yearOf, layersWith}
 use Rattle.year.specs.Run.{refused, fitted, runThrough, bufferAfter}
 use Rattle.year.proofs.Treaties.{passed-numbers, passed-rising}
-use Rattle.year.proofs.Shown.{risk-length, cat-length}
+use Rattle.year.proofs.Shown.{event-lines-length, risk-length, cat-length}
 use Rattle.losses.specs.declared.register.Register.{Register}
 use Rattle.losses.specs.Register.{registerOf}
 use Rattle.statement.specs.declared.print.Counts.{Counts}
+use Rattle.statement.specs.declared.row.Form.the-variants as form
 use Rattle.statement.specs.Numbers.{numbersOf}
+use Rattle.statement.specs.Forms.{widthOf, restWidth}
 use Rattle.statement.specs.Shows.{Fits, Shows}
 use Rattle.statement.proofs.Shown.{numbers-length}
 use Rattle.booking.specs.declared.progress.Progress.{Progress}
 use Rattle.booking.specs.Records.{yearIn, SoundRecords}
 use Rattle.booking.specs.Progress.{FirstOf, Stands}
+use Rattle.booking.proofs.Booking.{kept-of-events}
 use Rattle.lines.specs.declared.pass.Passed.{Passed}
 use Rattle.lines.specs.Pass.{CanPass, passIs}
 use Rattle.engine.specs.declared.run.Ran.{Ran}
@@ -47,8 +50,9 @@ use Rattle.engine.specs.Run.{ranOf, runLines, restNumbers, CanKeep, CanR
 use Rattle.engine.proofs.Stating.{through-length, all-kept}
 
 -- a place for each number
-pub with-places : (n m z : ℕ) (p : Programme) (s : Standing) (text : List ℕ) → n ≤ 65536 → 7 * n + 1020 ≤ 10 * m
-    → CanRun n p s text → CanRun 65536 p s text × PlacesFor text (replicate m z)
+pub with-places : (n m z : ℕ) (p : Programme) (s : Standing) (text : List ℕ) → n ≤ 65536
+    → widthOf form.Event * n + 10 * restWidth ≤ 10 * m → CanRun n p s text
+    → CanRun 65536 p s text × PlacesFor text (replicate m z)
 with-places n m z p s text h k r = (
   record { programme = r .programme; standing = r .standing; short = omega (arith, r .short) },
   record { room = rw (length-replicate m z) (omega (arith, r .short)) },
@@ -58,18 +62,13 @@ with-length : (ts : List Terms) (ms : List ℕ) → length (layersWith ts ms) �
 with-length [] ms = refl
 with-length (t ∷ ts) ms = ap suc (with-length ts (drop 1 ms))
 
--- seven numbers for each event
-seven-each : (ls : List EventLine) → length (numbersOf (map eventShown ls)) ≡ 7 * length ls
-seven-each [] = refl
-seven-each (l ∷ ls) = omega (arith, length-append (eventNumbers l) (numbersOf (map eventShown ls)), seven-each ls)
-
 -- the events of a text were read and booked
 record Accepted (p : Programme) (s : Standing) (text d₀ : List ℕ) (start : Progress) (r : Progress) (d cs : List ℕ)
     : Type 0 where
   es : List Event
   read : readFrom (treatiesIn (p .treaties)) 1 (s .day) (formsOf text) ≡ events es
   stands : Stands (treatiesIn (p .treaties)) start d₀ (replicate 9 0) es r d cs
-  few : 10 * r .kept ≤ 7 * length text
+  few : 10 * length es ≤ length text
 
 module _ (p : Programme) (s : Standing) (text d₀ : List ℕ) (can : CanRun 65536 p s text)
     (places : PlacesFor text d₀) where
@@ -145,7 +144,7 @@ module _ (p : Programme) (s : Standing) (text d₀ : List ℕ) (can : CanRun 655
           count = few-treaties p (can .programme);
           numbers = rw (a .stands .cessions, through-length ts (replicate 9 0) (a .es)) numbers-below;
           records = a .stands .sound;
-          place = omega (arith, a .few, can .short);
+          place = omega (arith, kept-of-events (a .stands), a .few, can .short);
         }
           where
             numbers-below : Each (λ (t : Treaty). t .number < 9) ts
@@ -157,7 +156,7 @@ module _ (p : Programme) (s : Standing) (text d₀ : List ℕ) (can : CanRun 655
 
         -- the rest of the statement's numbers was kept
         module _ (d′ : List ℕ) (end : ℕ) (k : Put d (r .progress .kept) (restNumbers ts cs (r .progress)) d′ end)
-            (h : end ≤ r .progress .kept + 102) where
+            (h : end ≤ r .progress .kept + restWidth) where
           abbrev shown : Statement
           shown = statementOf ts (yearIn (start .records)) (a .es)
 
@@ -165,7 +164,7 @@ module _ (p : Programme) (s : Standing) (text d₀ : List ℕ) (can : CanRun 655
           kept = all-kept ts rising numbers start d₀ (a .es) (r .progress) d cs (a .stands) k
 
           fits-in : length (numbersOf (linesShown shown)) ≤ length d₀
-          fits-in = omega (arith, kept .place, a .few, places .room)
+          fits-in = omega (arith, kept .place, kept-of-events (a .stands), a .few, places .room)
 
           same-length : length d′ ≡ length d₀
           same-length = rw (kept .bytes) (length-sets d₀ 0 (numbersOf (linesShown shown)))
@@ -184,14 +183,19 @@ module _ (p : Programme) (s : Standing) (text d₀ : List ℕ) (can : CanRun 655
           -- the counts of its lines
           abbrev counts : Counts
           counts = record {
-            events = r .progress .kept / 7;
+            events = r .progress .kept / widthOf form.Event;
             treaties = p .treaties .count;
             risk = p .risk .count;
             cat = p .cat .count;
           }
 
           event-count : counts .events ≡ length (shown .events)
-          event-count = omega (arith, a .stands .kept .place, seven-each (shown .events))
+          event-count =
+              omega (
+                arith,
+                kept-of-events (a .stands),
+                event-lines-length ts (yearIn (start .records)) (a .es),
+              )
 
           placed : programmeOf (contractsIn p) ≡ p
           placed = valid-placed p (can .programme)
@@ -227,11 +231,8 @@ module _ (p : Programme) (s : Standing) (text d₀ : List ℕ) (can : CanRun 655
 
           pub fits : Fits (take end d′) counts
           fits = record {
-            numbers =
-                ap length front
-                ∙ numbers-length shown
-                ∙ rw (← event-count, ← treaty-count, ← risk-count, ← cat-count) refl;
-            events = omega (arith, a .few, can .short);
+            numbers = numbers-length (take end d′) counts shown shows;
+            events = omega (arith, kept-of-events (a .stands), a .few, can .short);
             treaties = few-treaties p (can .programme);
             risk = few-risk p (can .programme);
             cat = few-cat p (can .programme);

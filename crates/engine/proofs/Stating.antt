@@ -2,7 +2,7 @@
 -- Assumes nothing.
 use mathlib.Core.Path.{_≡_, refl, sym, ap, _∙_, subst}
 use mathlib.Core.List.{List, [], _∷_, _++_, map, append-assoc}
-use Prim.Native.Nat.{ℕ, _+_, _≤_, _<_}
+use Prim.Native.Nat.{ℕ, _+_, _*_, _≤_, _<_}
 use native.Mathlib.Nat.{add-zero}
 use native.Mathlib.Omega.{arith}
 use lib.ListN.{length, getD, replicate}
@@ -21,7 +21,9 @@ use Rattle.year.specs.Statement.{cededBy, treatyLineOf, layerLineOf, statementO
 use Rattle.year.specs.Statement.{linesShown, riskTemplate, catTemplate}
 use Rattle.losses.specs.Cede.{cededAdded}
 use Rattle.losses.proofs.Added.{added-length, added-at}
+use Rattle.statement.specs.declared.row.Form.the-variants as form
 use Rattle.statement.specs.Numbers.{numbersOf, layersNumbers, cededLine}
+use Rattle.statement.specs.Forms.{widthOf, restWidth}
 use Rattle.statement.proofs.Shown.{numbers-append, layers-numbers}
 use Rattle.booking.specs.declared.progress.Progress.{Progress}
 use Rattle.booking.specs.Records.{yearIn}
@@ -33,8 +35,9 @@ pub rest-kept : {d d₁ d₂ d₃ d₄ : List ℕ} {at a b c end : ℕ} {u v w x
     → Put d₂ b w d₃ c → Put d₃ c x d₄ end → Put d at (u ++ (v ++ (w ++ x))) d₄ end
 rest-kept p q r s = put-append p (put-append q (put-append r s))
 
-pub rest-short : (at a b c end : ℕ) {d d′ : List ℕ} {x : List ℕ} → a ≤ at + 16 → b ≤ a + 40 → c ≤ b + 40
-    → Put d c x d′ end → length x ≡ 6 → end ≤ at + 102
+pub rest-short : (at a b c end : ℕ) {d d′ : List ℕ} {x : List ℕ} → a ≤ at + 8 * widthOf form.Treaty
+    → b ≤ a + 8 * widthOf form.Risk → c ≤ b + 8 * widthOf form.Cat → Put d c x d′ end → length x ≡ widthOf form.Total
+    → end ≤ at + restWidth
 rest-short at a b c end i j k p l = omega (arith, p .place)
 
 pub through-length : (ts : List Treaty) (cs : List ℕ) (es : List Event) → length (cededThrough ts cs es) ≡ length cs
@@ -71,7 +74,7 @@ module _ (n : ℕ) (es : List Event) where
       omega (arith, own, zero-at 9 (t .number)) in
       λ i. record { number = t .number; ceded = amount i } ∷ more i
 
-  pub treaty-lines : (ts : List Treaty) → Numbered n ts → Each (λ (t : Treaty). t .number ≤ 8) ts
+  treaty-lines : (ts : List Treaty) → Numbered n ts → Each (λ (t : Treaty). t .number ≤ 8) ts
       → map (cededLine (cededThrough ts (replicate 9 0) es)) ts ≡ map (treatyLineOf es) ts
   treaty-lines ts r z = lines-from [] ts r z
 

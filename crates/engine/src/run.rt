@@ -164,10 +164,10 @@ fn long(programme: Programme, standing: Standing, events: &[u8], buffer: &mut [u
     through(programme, standing, events, buffer, &mut kept)
 }
 
-// The same with places by the text's length. A buffer shorter than every statement is as good as none, and this is why
-// the function calls itself on an empty part of it: LLVM puts no callee with more than 1,024 bytes of locals into a
-// function that calls itself, and no function that calls itself into another. So `short`, `medium` and `long` each keep
-// their frame, and a short text does not take the stack of a long one.
+// The same with places by the text's length. A buffer shorter than every statement is as good as none: the function
+// calls itself with no bytes of it. It does so on purpose. LLVM puts no callee with more than 1,024 bytes of locals
+// into a function that calls itself, and no function that calls itself into another. So `short`, `medium` and `long`
+// each keep a frame of their own, and a short text does not take the stack of a long one.
 fn placed(programme: Programme, standing: Standing, events: &[u8], buffer: &mut [u8]) -> Ran
     requires { ⌜ CanRun 65536 programme standing (now events) ⌝ }
     ensures { λ r. ⌜ RanAs (runLines programme standing (now (events .entry)) (length (now (buffer .entry))))

@@ -8,7 +8,7 @@ use Prim.Native.Nat.{ℕ, zero, suc, _+_, _-_, _*_, _^_, _≤_, _<_}
 use native.Mathlib.Omega.{arith}
 use mir.Syntax.{w64}
 use mir.Val.{Fits}
-use lib.ListN.{length, take, drop, length-take, length-drop}
+use lib.ListN.{length, take, drop, length-append, length-take, length-drop}
 use lib.Seq.{length-take-le}
 use Rattle.lists.specs.Each.{Each}
 use Rattle.lists.proofs.Cases.{by-test}
@@ -42,7 +42,7 @@ use Rattle.losses.proofs.RegisterFacts.{treaties, cedes, by-number, places-term
 use Rattle.losses.proofs.RegisterFacts.{lacking-same}
 use Rattle.booking.proofs.EventBounds.{tier-layers, Bookable, amounts-le}
 use Rattle.booking.proofs.Idle.{idle-booked}
-use Rattle.booking.proofs.Booking.{one-booked, amounts-added-le}
+use Rattle.booking.proofs.Booking.{one-booked, kept-of-events, amounts-added-le}
 use Rattle.lines.specs.declared.pass.Passed.{Passed}
 use Rattle.lines.specs.Pass.{CanPass, passIs}
 use Rattle.lines.proofs.LossPass.{Listed, none-listed, count-small, same-numbers, one-listed, kept-losses}
@@ -74,7 +74,7 @@ pub record Going (register : Register) (start : Progress) (text d₀ cs₀ lacks
   pub stands : Stands (treaties register) start d₀ cs₀ es p d cs
   pub within : at ≤ length text
   pub early : number ≤ at
-  pub few : 10 * p .kept ≤ 7 * at
+  pub few : 10 * length es ≤ at
   pub totals-le : Each (λ (n : ℕ). n ≤ 64 * 10 ^ 12 * at) (amountsNumbers (p .total))
   pub cessions-le : Each (λ (n : ℕ). n ≤ 64 * 10 ^ 12 * at) cs
   pub nine : length cs ≡ 9
@@ -101,7 +101,7 @@ going-begins register start text d cs lacks ns c l n = record {
   };
   within = omega arith;
   early = omega arith;
-  few = omega (arith, c .kept);
+  few = omega arith;
   totals-le = rw (c .total) (each-replicate (λ (n : ℕ). n ≤ 64 * 10 ^ 12 * 0) 0 (omega arith) 6);
   cessions-le = rw (c .cessions) (each-replicate (λ (n : ℕ). n ≤ 64 * 10 ^ 12 * 0) 0 (omega arith) 9);
   nine = rw (c .cessions) refl;
@@ -284,7 +284,7 @@ module _ (register : Register) (start : Progress) (text d₀ cs₀ lacks ns : Li
           lawful : EventLawful event
           lawful = event-lawful (treaties register) (p .day) event fine
 
-          pub count-few : count ≤ 64
+          count-few : count ≤ 64
           count-few = omega (arith, k .counted, lawful .few)
 
           kept : lossesFrom (take (3 * count) ns′) ≡ k .xs
@@ -314,7 +314,7 @@ module _ (register : Register) (start : Progress) (text d₀ cs₀ lacks ns : Li
             };
             cedes = cedes register (g .can .treaties) (g .can .by-number);
             totals = small (amountsNumbers (p .total)) (g .totals-le);
-            kept = omega (arith, g .few, g .within, g .can .short);
+            kept = omega (arith, kept-of-events (g .stands), g .few, g .within, g .can .short);
           }
 
           pub place-fits : p .kept < 2 ^ 32
@@ -347,7 +347,7 @@ module _ (register : Register) (start : Progress) (text d₀ cs₀ lacks ns : Li
                 stands = one-booked (treaties register) start d₀ cs₀ (g .es) p d cs (g .stands) event d′ cs′ p′ booked;
                 within = omega arith;
                 early = omega (arith, g .early);
-                few = omega (arith, g .few, booked .kept .place, line-length);
+                few = omega (arith, g .few, length-append (g .es) (event ∷ []), line-length);
                 totals-le =
                     rw (booked .total)
                     (amounts-added-le (64 * 10 ^ 12 * at) (64 * 10 ^ 13) (64 * 10 ^ 12 * (e + 1)) (p .total) _

@@ -29,7 +29,7 @@ pub record CanPass (text : List ℕ) (register : Register) (start : Progress) (c
   pub cessions : cs ≡ replicate 9 0
 
 -- What a pass comes to, by what reading the text comes to: the refusal, its line and the progress that the pass began
--- with, or the events booked; at most seven numbers are kept for each ten bytes.
+-- with, or the events booked; a line of the text has ten bytes or more.
 abbrev pub passIs : List Treaty → Progress → (text d d′ cs cs′ : List ℕ) → Passed → EventsRead → Type 0
 passIs ts start text d d′ cs cs′ r (turnedDown n w) =
     (r ≡ record { refusal = n; line = w; progress = start }) × (n ≡ 0 → ⊥)
@@ -37,4 +37,4 @@ passIs ts start text d d′ cs cs′ r (events es) =
     (r .refusal ≡ 0)
     × (r .line ≡ 0)
     × Stands ts start d cs es (r .progress) d′ cs′
-    × (10 * r .progress .kept ≤ 7 * length text)
+    × (10 * length es ≤ length text)

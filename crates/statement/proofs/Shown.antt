@@ -2,8 +2,8 @@
 -- the numbers of all lines tell the text.
 -- Assumes nothing.
 use mathlib.Core.Path.{_≡_, refl, sym, ap, _∙_}
-use mathlib.Core.List.{List, [], _∷_, _++_, map, map-append, append-assoc}
-use Prim.Native.Nat.{ℕ, suc, _+_, _*_, _^_, _≤_, _<_}
+use mathlib.Core.List.{List, [], _∷_, _++_, map, map-append, append-assoc, append-nil}
+use Prim.Native.Nat.{ℕ, suc, _+_, _-_, _*_, _^_, _≤_, _<_}
 use native.Mathlib.Nat.{suc-mul}
 use native.Mathlib.Omega.{arith}
 use lib.ListN.{length, drop, length-append, length-map}
@@ -18,11 +18,14 @@ use Rattle.text.proofs.Puts.{put-append}
 use Rattle.text.proofs.Feeds.{joined-append}
 use Rattle.text.proofs.Lengths.{filled-long, filled-size}
 use Rattle.year.specs.Statement.{Line, EventLine, TreatyLine, LayerLine, Statement, lineText, eventShown, treatyShown}
-use Rattle.year.specs.Statement.{layersShown, amountsNumbers, totalShown, linesShown, statementText}
+use Rattle.year.specs.Statement.{layersShown, amountsNumbers, totalShown, statementText}
 use Rattle.year.specs.Statement.{eventTemplate, treatyTemplate, riskTemplate, catTemplate, totalTemplate}
 use Rattle.statement.specs.declared.print.Counts.{Counts}
+use Rattle.statement.specs.declared.row.Form.{Form}
+use Rattle.statement.specs.declared.row.Form.the-variants.{Event, Treaty, Risk, Cat, Total}
 use Rattle.statement.specs.Numbers.{numbersOf, layersNumbers, rowsText}
-use Rattle.statement.specs.Shows.{linesIn, Fits, Shows}
+use Rattle.statement.specs.Forms.{templateOf, widthOf}
+use Rattle.statement.specs.Shows.{linesIn, numbersIn, Fits, Shows}
 use Rattle.statement.proofs.Rows.{no-rows, more-rows}
 
 pub numbers-append : (ls ms : List Line) → numbersOf (ls ++ ms) ≡ numbersOf ls ++ numbersOf ms
@@ -77,180 +80,238 @@ alike-size t w f h e (l ∷ ls) a =
       suc-mul (length ls) f,
     )
 
--- n lines of one kind
-record Kind (t : List ℕ) (w : ℕ) (ls : List Line) (n : ℕ) : Type 0 where
-  alike : Alike t w ls
+-- how many bytes of a kind's line stand for themselves, with the line feed
+abbrev plainOf : Form → ℕ
+plainOf f = length (templateOf f) + 1 - widthOf f
+
+as-wide : (f : Form) → holes (templateOf f) ≡ widthOf f
+unfolding holes capital
+as-wide Event = refl
+as-wide Treaty = refl
+as-wide Risk = refl
+as-wide Cat = refl
+as-wide Total = refl
+
+as-long : (f : Form) → length (templateOf f) + 1 ≡ widthOf f + plainOf f
+as-long Event = refl
+as-long Treaty = refl
+as-long Risk = refl
+as-long Cat = refl
+as-long Total = refl
+
+-- n lines of a kind
+record Kind (f : Form) (ls : List Line) (n : ℕ) : Type 0 where
+  alike : Alike (templateOf f) (widthOf f) ls
   many : n ≡ length ls
 
-module _ {t : List ℕ} {w : ℕ} {ls : List Line} {n : ℕ} (q : Kind t w ls n) where
-  kind-length : length (numbersOf ls) ≡ n * w
-  kind-length = alike-length t w ls (q .alike) ∙ rw (q .many)
+module _ {f : Form} {ls : List Line} {n : ℕ} (q : Kind f ls n) where
+  kind-length : length (numbersOf ls) ≡ n * widthOf f
+  kind-length = alike-length (templateOf f) (widthOf f) ls (q .alike) ∙ rw (q .many)
 
-  kind-size : (f : ℕ) → holes t ≡ w → length t + 1 ≡ w + f
-      → length (joined (map lineText ls)) ≡ n * f + digitsIn (numbersOf ls)
-  kind-size f h e = rw (q .many) (alike-size t w f h e ls (q .alike))
+  kind-size : length (joined (map lineText ls)) ≡ n * plainOf f + digitsIn (numbersOf ls)
+  kind-size =
+      rw (q .many) (alike-size (templateOf f) (widthOf f) (plainOf f) (as-wide f) (as-long f) ls (q .alike))
 
   -- among lines whose numbers stand in ns from the place k on
   module _ (ns : List ℕ) (k : ℕ) (more : List Line) (from : drop k ns ≡ numbersOf (ls ++ more)) where
     -- the numbers of those after them
-    after-kind : (m : ℕ) → m ≡ k + n * w → drop m ns ≡ numbersOf more
+    after-kind : (m : ℕ) → m ≡ k + n * widthOf f → drop m ns ≡ numbersOf more
     after-kind m e =
-        rw (e, ← drop-drop (n * w) k ns, from, numbers-append ls more)
-        (drop-at (numbersOf ls) (numbersOf more) (n * w) kind-length)
+        rw (e, ← drop-drop (n * widthOf f) k ns, from, numbers-append ls more)
+        (drop-at (numbersOf ls) (numbersOf more) (n * widthOf f) kind-length)
 
     -- their text, where the rows of their numbers are put
-    kind-put : {d d′ : List ℕ} {at next : ℕ} → Put d at (rowsText t w n (drop k ns)) d′ next
+    kind-put : {d d′ : List ℕ} {at next : ℕ}
+        → Put d at (rowsText (templateOf f) (widthOf f) n (drop k ns)) d′ next
         → Put d at (joined (map lineText ls)) d′ next
-    kind-put p = rw (← rows-lines t w ls (numbersOf more) (q .alike), ← numbers-append ls more, ← from, ← q .many) p
+    kind-put p =
+        let lines = rows-lines (templateOf f) (widthOf f) ls (numbersOf more) (q .alike) in
+        rw (← lines, ← numbers-append ls more, ← from, ← q .many) p
 
--- the lines of the events
-event-kind : (ls : List EventLine) (n : ℕ) → n ≡ length ls → Kind eventTemplate 7 (map eventShown ls) n
-event-kind ls n e = record { alike = each ls; many = e ∙ rw length-map }
-  where
-    each : (ls : List EventLine) → Alike eventTemplate 7 (map eventShown ls)
-    each [] = tt
-    each (l ∷ ls) = ((refl, refl), each ls)
+length-both : (ls ms : List Line) → length (numbersOf (ls ++ ms)) ≡ length (numbersOf ls) + length (numbersOf ms)
+length-both ls ms = rw (numbers-append ls ms) (length-append (numbersOf ls) (numbersOf ms))
 
--- those of the treaties
-treaty-kind : (ls : List TreatyLine) (n : ℕ) → n ≡ length ls → Kind treatyTemplate 2 (map treatyShown ls) n
-treaty-kind ls n e = record { alike = each ls; many = e ∙ rw length-map }
-  where
-    each : (ls : List TreatyLine) → Alike treatyTemplate 2 (map treatyShown ls)
-    each [] = tt
-    each (l ∷ ls) = ((refl, refl), each ls)
+digits-both : (ls ms : List Line)
+    → digitsIn (numbersOf (ls ++ ms)) ≡ digitsIn (numbersOf ls) + digitsIn (numbersOf ms)
+digits-both ls ms =
+    rw (numbers-append ls ms) (sum-append (λ (n : ℕ). length (digits n)) (numbersOf ls) (numbersOf ms))
 
--- those of a tier's layers
-layer-kind : (t : List ℕ) (i : ℕ) (ls : List LayerLine) (n : ℕ) → n ≡ length ls → Kind t 5 (layersShown t i ls) n
-layer-kind t i ls n e = record { alike = each i ls; many = e ∙ sym (size i ls) }
-  where
-    each : (i : ℕ) (ls : List LayerLine) → Alike t 5 (layersShown t i ls)
-    each i [] = tt
-    each i (l ∷ ls) = ((refl, refl), each (i + 1) ls)
+-- where the rows of each kind begin, and the text of those from a place of the numbers ns on
+module _ (count : Form → ℕ) where
+  abbrev treatiesAt : ℕ
+  treatiesAt = widthOf Event * count Event
 
-    size : (i : ℕ) (ls : List LayerLine) → length (layersShown t i ls) ≡ length ls
-    size i [] = refl
-    size i (l ∷ ls) = ap suc (size (i + 1) ls)
+  abbrev riskAt : ℕ
+  riskAt = treatiesAt + widthOf Treaty * count Treaty
 
--- lines of five kinds, the last kind with one line
-module _ {t₁ t₂ t₃ t₄ t₅ : List ℕ} {a b c e : List Line} (u : Line) {n₁ n₂ n₃ n₄ : ℕ} (q₁ : Kind t₁ 7 a n₁)
-    (q₂ : Kind t₂ 2 b n₂) (q₃ : Kind t₃ 5 c n₃) (q₄ : Kind t₄ 5 e n₄) (q₅ : Kind t₅ 6 (u ∷ []) 1) where
-  -- in order
+  abbrev catAt : ℕ
+  catAt = riskAt + widthOf Risk * count Risk
+
+  abbrev totalAt : ℕ
+  totalAt = catAt + widthOf Cat * count Cat
+
+  abbrev rowsAt : (ns : List ℕ) → Form → ℕ → List ℕ
+  rowsAt ns f k = rowsText (templateOf f) (widthOf f) (count f) (drop k ns)
+
+-- lines of each kind
+module _ (shown : Form → List Line) (count : Form → ℕ) (kind : (f : Form) → Kind f (shown f) (count f)) where
+  -- in order: those from a kind on
+  abbrev fromCat : List Line
+  fromCat = shown Cat ++ shown Total
+
+  abbrev fromRisk : List Line
+  fromRisk = shown Risk ++ fromCat
+
+  abbrev fromTreaties : List Line
+  fromTreaties = shown Treaty ++ fromRisk
+
   abbrev inOrder : List Line
-  inOrder = a ++ (b ++ (c ++ (e ++ (u ∷ []))))
+  inOrder = shown Event ++ fromTreaties
 
-  length-both : (ls ms : List Line) → length (numbersOf (ls ++ ms)) ≡ length (numbersOf ls) + length (numbersOf ms)
-  length-both ls ms = rw (numbers-append ls ms) (length-append (numbersOf ls) (numbersOf ms))
-
-  five-length : length (numbersOf inOrder) ≡ 7 * n₁ + 2 * n₂ + 5 * n₃ + 5 * n₄ + 6
-  five-length =
+  in-all : length (numbersOf inOrder)
+      ≡ widthOf Event * count Event
+      + widthOf Treaty * count Treaty
+      + widthOf Risk * count Risk
+      + widthOf Cat * count Cat
+      + widthOf Total * count Total
+  in-all =
       omega (
         arith,
-        length-both a (b ++ (c ++ (e ++ (u ∷ [])))),
-        length-both b (c ++ (e ++ (u ∷ []))),
-        length-both c (e ++ (u ∷ [])),
-        length-both e (u ∷ []),
-        kind-length q₁,
-        kind-length q₂,
-        kind-length q₃,
-        kind-length q₄,
-        kind-length q₅,
+        length-both (shown Event) fromTreaties,
+        length-both (shown Treaty) fromRisk,
+        length-both (shown Risk) fromCat,
+        length-both (shown Cat) (shown Total),
+        kind-length (kind Event),
+        kind-length (kind Treaty),
+        kind-length (kind Risk),
+        kind-length (kind Cat),
+        kind-length (kind Total),
       )
 
-  five-parts : joined (map lineText inOrder)
-      ≡ joined (map lineText a) ++ (joined (map lineText b) ++ (joined (map lineText c)
-      ++ (joined (map lineText e) ++ joined (map lineText (u ∷ [])))))
-  five-parts = simp (map-append, joined-append)
+  parts : joined (map lineText inOrder)
+      ≡ joined (map lineText (shown Event)) ++ (joined (map lineText (shown Treaty))
+      ++ (joined (map lineText (shown Risk))
+      ++ (joined (map lineText (shown Cat)) ++ joined (map lineText (shown Total)))))
+  parts = simp (map-append, joined-append)
 
-  -- their length
-  digits-both : (ls ms : List Line) → digitsIn (numbersOf (ls ++ ms)) ≡ digitsIn (numbersOf ls) + digitsIn (numbersOf ms)
-  digits-both ls ms =
-      rw (numbers-append ls ms) (sum-append (λ (n : ℕ). length (digits n)) (numbersOf ls) (numbersOf ms))
-
-  five-size : length (joined (map lineText a)) ≡ n₁ * 60 + digitsIn (numbersOf a)
-      → length (joined (map lineText b)) ≡ n₂ * 19 + digitsIn (numbersOf b)
-      → length (joined (map lineText c)) ≡ n₃ * 61 + digitsIn (numbersOf c)
-      → length (joined (map lineText e)) ≡ n₄ * 60 + digitsIn (numbersOf e)
-      → length (joined (map lineText (u ∷ []))) ≡ 1 * 59 + digitsIn (numbersOf (u ∷ []))
-      → length (joined (map lineText inOrder))
-      ≡ 60 * n₁ + 19 * n₂ + 61 * n₃ + 60 * n₄ + 59 + digitsIn (numbersOf inOrder)
-  five-size h₁ h₂ h₃ h₄ h₅ =
-      rw five-parts
+  -- how long they are
+  size : length (joined (map lineText inOrder))
+      ≡ plainOf Event * count Event
+      + plainOf Treaty * count Treaty
+      + plainOf Risk * count Risk
+      + plainOf Cat * count Cat
+      + plainOf Total * count Total
+      + digitsIn (numbersOf inOrder)
+  size =
+      rw parts
       (simp length-append
       (omega (
         arith,
-        h₁,
-        h₂,
-        h₃,
-        h₄,
-        h₅,
-        digits-both a (b ++ (c ++ (e ++ (u ∷ [])))),
-        digits-both b (c ++ (e ++ (u ∷ []))),
-        digits-both c (e ++ (u ∷ [])),
-        digits-both e (u ∷ []),
-        length-append (lineText u) (10 ∷ []),
+        kind-size (kind Event),
+        kind-size (kind Treaty),
+        kind-size (kind Risk),
+        kind-size (kind Cat),
+        kind-size (kind Total),
+        digits-both (shown Event) fromTreaties,
+        digits-both (shown Treaty) fromRisk,
+        digits-both (shown Risk) fromCat,
+        digits-both (shown Cat) (shown Total),
       )))
 
   -- put one after another, by their numbers ns
-  five-put : (ns : List ℕ) → ns ≡ numbersOf inOrder
+  rows-put : (ns : List ℕ) → ns ≡ numbersOf inOrder
       → {d d₁ d₂ d₃ d₄ d₅ : List ℕ} {at first second third fourth end : ℕ}
-      → Put d at (rowsText t₁ 7 n₁ ns) d₁ first
-      → Put d₁ first (rowsText t₂ 2 n₂ (drop (7 * n₁) ns)) d₂ second
-      → Put d₂ second (rowsText t₃ 5 n₃ (drop (7 * n₁ + 2 * n₂) ns)) d₃ third
-      → Put d₃ third (rowsText t₄ 5 n₄ (drop (7 * n₁ + 2 * n₂ + 5 * n₃) ns)) d₄ fourth
-      → Put d₄ fourth (rowsText t₅ 6 1 (drop (7 * n₁ + 2 * n₂ + 5 * n₃ + 5 * n₄) ns)) d₅ end
+      → Put d at (rowsAt count ns Event 0) d₁ first
+      → Put d₁ first (rowsAt count ns Treaty (treatiesAt count)) d₂ second
+      → Put d₂ second (rowsAt count ns Risk (riskAt count)) d₃ third
+      → Put d₃ third (rowsAt count ns Cat (catAt count)) d₄ fourth
+      → Put d₄ fourth (rowsAt count ns Total (totalAt count)) d₅ end
       → Put d at (joined (map lineText inOrder)) d₅ end
-  five-put ns h₁ p₁ p₂ p₃ p₄ p₅ =
-      let k₂ = 7 * n₁ in
-      let k₃ = k₂ + 2 * n₂ in
-      let k₄ = k₃ + 5 * n₃ in
-      let h₂ = after-kind q₁ ns 0 (b ++ (c ++ (e ++ (u ∷ [])))) h₁ k₂ (omega arith) in
-      let h₃ = after-kind q₂ ns k₂ (c ++ (e ++ (u ∷ []))) h₂ k₃ (omega arith) in
-      let h₄ = after-kind q₃ ns k₃ (e ++ (u ∷ [])) h₃ k₄ (omega arith) in
-      let h₅ = after-kind q₄ ns k₄ (u ∷ []) h₄ (k₄ + 5 * n₄) (omega arith) in
-      rw five-parts
-      (put-append (kind-put q₁ ns 0 (b ++ (c ++ (e ++ (u ∷ [])))) h₁ p₁)
-      (put-append (kind-put q₂ ns k₂ (c ++ (e ++ (u ∷ []))) h₂ p₂)
-      (put-append (kind-put q₃ ns k₃ (e ++ (u ∷ [])) h₃ p₃)
-      (put-append (kind-put q₄ ns k₄ (u ∷ []) h₄ p₄) (kind-put q₅ ns (k₄ + 5 * n₄) [] h₅ p₅)))))
+  rows-put ns h₁ p₁ p₂ p₃ p₄ p₅ =
+      let h₂ = after-kind (kind Event) ns 0 fromTreaties h₁ (treatiesAt count) (omega arith) in
+      let h₃ = after-kind (kind Treaty) ns (treatiesAt count) fromRisk h₂ (riskAt count) (omega arith) in
+      let h₄ = after-kind (kind Risk) ns (riskAt count) fromCat h₃ (catAt count) (omega arith) in
+      let h₅ = after-kind (kind Cat) ns (catAt count) (shown Total) h₄ (totalAt count) (omega arith) in
+      rw parts
+      (put-append (kind-put (kind Event) ns 0 fromTreaties h₁ p₁)
+      (put-append (kind-put (kind Treaty) ns (treatiesAt count) fromRisk h₂ p₂)
+      (put-append (kind-put (kind Risk) ns (riskAt count) fromCat h₃ p₃)
+      (put-append (kind-put (kind Cat) ns (catAt count) (shown Total) h₄ p₄)
+      (kind-put (kind Total) ns (totalAt count) [] (rw append-nil h₅) p₅)))))
 
--- how many numbers a statement's lines have
-pub numbers-length : (t : Statement) → length (numbersOf (linesShown t))
-    ≡ 7 * length (t .events) + 2 * length (t .treaties) + 5 * length (t .layers .risk) + 5 * length (t .layers .cat)
-    + 6
-numbers-length t =
-    five-length (totalShown (t .total)) (event-kind (t .events) _ refl) (treaty-kind (t .treaties) _ refl)
-    (layer-kind riskTemplate 1 (t .layers .risk) _ refl) (layer-kind catTemplate 1 (t .layers .cat) _ refl)
-    (record { alike = ((refl, refl), tt); many = refl })
+-- the lines of a kind of a statement
+abbrev shownBy : Statement → Form → List Line
+shownBy t Event = map eventShown (t .events)
+shownBy t Treaty = map treatyShown (t .treaties)
+shownBy t Risk = layersShown riskTemplate 1 (t .layers .risk)
+shownBy t Cat = layersShown catTemplate 1 (t .layers .cat)
+shownBy t Total = totalShown (t .total) ∷ []
 
--- a statement's text, where the rows of the numbers of all its lines are put
-pub statement-put : (ns : List ℕ) (c : Counts) {d d₁ d₂ d₃ d₄ d₅ : List ℕ} {first second third fourth end : ℕ}
-    → Put d 0 (rowsText eventTemplate 7 (c .events) ns) d₁ first
-    → Put d₁ first (rowsText treatyTemplate 2 (c .treaties) (drop (7 * c .events) ns)) d₂ second
-    → Put d₂ second (rowsText riskTemplate 5 (c .risk) (drop (7 * c .events + 2 * c .treaties) ns)) d₃ third
-    → Put d₃ third
-    (rowsText catTemplate 5 (c .cat) (drop (7 * c .events + 2 * c .treaties + 5 * c .risk) ns)) d₄ fourth
-    → Put d₄ fourth
-    (rowsText totalTemplate 6 1 (drop (7 * c .events + 2 * c .treaties + 5 * c .risk + 5 * c .cat) ns)) d₅ end
-    → (t : Statement) → Shows t ns c → Put d 0 (statementText t) d₅ end
-unfolding statementText
-statement-put ns c p₁ p₂ p₃ p₄ p₅ t h =
-    five-put (totalShown (t .total)) (event-kind (t .events) _ (h .events)) (treaty-kind (t .treaties) _ (h .treaties))
-    (layer-kind riskTemplate 1 (t .layers .risk) _ (h .risk)) (layer-kind catTemplate 1 (t .layers .cat) _ (h .cat))
-    (record { alike = ((refl, refl), tt); many = refl }) ns (h .numbers) p₁ p₂ p₃ p₄ p₅
+-- and how many these are
+abbrev countOf : Counts → Form → ℕ
+countOf c Event = c .events
+countOf c Treaty = c .treaties
+countOf c Risk = c .risk
+countOf c Cat = c .cat
+countOf c Total = 1
 
--- how long it is
-pub statement-size : (ns : List ℕ) (c : Counts) (r : ℕ) → r ≡ digitsIn ns → (t : Statement) → Shows t ns c
-    → 60 * c .events + 19 * c .treaties + 61 * c .risk + 60 * c .cat + 59 + r ≡ length (statementText t)
-unfolding statementText holes capital
-statement-size ns c r e t h =
-    let q₁ = event-kind (t .events) _ (h .events) in
-    let q₂ = treaty-kind (t .treaties) _ (h .treaties) in
-    let q₃ = layer-kind riskTemplate 1 (t .layers .risk) _ (h .risk) in
-    let q₄ = layer-kind catTemplate 1 (t .layers .cat) _ (h .cat) in
-    let q₅ : Kind totalTemplate 6 (totalShown (t .total) ∷ []) 1 = record { alike = ((refl, refl), tt); many = refl } in
-    let all = five-size (totalShown (t .total)) q₁ q₂ q₃ q₄ q₅ (kind-size q₁ 60 refl refl) (kind-size q₂ 19 refl refl)
-    (kind-size q₃ 61 refl refl) (kind-size q₄ 60 refl refl) (kind-size q₅ 59 refl refl) in
-    omega (arith, all, e, ap digitsIn (h .numbers))
+each-event : (ls : List EventLine) → Alike eventTemplate (widthOf Event) (map eventShown ls)
+each-event [] = tt
+each-event (l ∷ ls) = ((refl, refl), each-event ls)
+
+-- how many numbers the lines of events have
+pub events-length : (ls : List EventLine) → length (numbersOf (map eventShown ls)) ≡ widthOf Event * length ls
+events-length ls =
+    let all = alike-length eventTemplate (widthOf Event) (map eventShown ls) (each-event ls) in
+    omega (arith, all, length-map ls eventShown)
+
+each-treaty : (ls : List TreatyLine) → Alike treatyTemplate (widthOf Treaty) (map treatyShown ls)
+each-treaty [] = tt
+each-treaty (l ∷ ls) = ((refl, refl), each-treaty ls)
+
+each-layer : (t : List ℕ) (i : ℕ) (ls : List LayerLine) → Alike t (widthOf Risk) (layersShown t i ls)
+each-layer t i [] = tt
+each-layer t i (l ∷ ls) = ((refl, refl), each-layer t (i + 1) ls)
+
+many-layers : (t : List ℕ) (i : ℕ) (ls : List LayerLine) → length ls ≡ length (layersShown t i ls)
+many-layers t i [] = refl
+many-layers t i (l ∷ ls) = ap suc (many-layers t (i + 1) ls)
+
+module _ (ns : List ℕ) (c : Counts) where
+  kinds : (t : Statement) → Shows t ns c → (f : Form) → Kind f (shownBy t f) (countOf c f)
+  kinds t h Event = record { alike = each-event (t .events); many = h .events ∙ rw length-map }
+  kinds t h Treaty = record { alike = each-treaty (t .treaties); many = h .treaties ∙ rw length-map }
+  kinds t h Risk = record {
+    alike = each-layer riskTemplate 1 (t .layers .risk);
+    many = h .risk ∙ many-layers riskTemplate 1 (t .layers .risk);
+  }
+  kinds t h Cat = record {
+    alike = each-layer catTemplate 1 (t .layers .cat);
+    many = h .cat ∙ many-layers catTemplate 1 (t .layers .cat);
+  }
+  kinds t h Total = record { alike = ((refl, refl), tt); many = refl }
+
+  -- how many numbers a statement's lines have
+  pub numbers-length : (t : Statement) → Shows t ns c → length ns ≡ numbersIn c
+  numbers-length t h = ap length (h .numbers) ∙ in-all (shownBy t) (countOf c) (kinds t h)
+
+  -- its text, where the rows of the numbers of all its lines are put
+  pub statement-put : {d d₁ d₂ d₃ d₄ d₅ : List ℕ} {first second third fourth end : ℕ}
+      → Put d 0 (rowsAt (countOf c) ns Event 0) d₁ first
+      → Put d₁ first (rowsAt (countOf c) ns Treaty (treatiesAt (countOf c))) d₂ second
+      → Put d₂ second (rowsAt (countOf c) ns Risk (riskAt (countOf c))) d₃ third
+      → Put d₃ third (rowsAt (countOf c) ns Cat (catAt (countOf c))) d₄ fourth
+      → Put d₄ fourth (rowsAt (countOf c) ns Total (totalAt (countOf c))) d₅ end
+      → (t : Statement) → Shows t ns c → Put d 0 (statementText t) d₅ end
+  unfolding statementText
+  statement-put p₁ p₂ p₃ p₄ p₅ t h = rows-put (shownBy t) (countOf c) (kinds t h) ns (h .numbers) p₁ p₂ p₃ p₄ p₅
+
+  -- how long it is
+  pub statement-size : (r : ℕ) → r ≡ digitsIn ns → (t : Statement) → Shows t ns c
+      → 60 * c .events + 19 * c .treaties + 61 * c .risk + 60 * c .cat + 59 + r ≡ length (statementText t)
+  unfolding statementText
+  statement-size r e t h =
+      omega (arith, size (shownBy t) (countOf c) (kinds t h), e, ap digitsIn (h .numbers))
 
 -- it has the line of the totals, and with it 65 bytes or more
 pub statement-long : (t : Statement) → 65 ≤ length (statementText t)
@@ -272,5 +333,5 @@ module _ (ns : List ℕ) (c : Counts) (f : Fits ns c) where
       → fourth < 2 ^ 40
   fourth-small h₁ h₂ h₃ h₄ = omega (arith, f .events, f .treaties, f .risk, f .cat)
 
-  pub total-inside : 7 * c .events + 2 * c .treaties + 5 * c .risk + 5 * c .cat + 6 ≤ length ns
+  pub total-inside : numbersIn c ≤ length ns
   total-inside = omega (arith, f .numbers)

@@ -14,14 +14,18 @@ use Rattle.statement.specs.Forms.{widthOf}
 abbrev pub linesIn : Counts → ℕ
 linesIn c = c .events + c .treaties + c .risk + c .cat + 1
 
--- as many numbers as lines of these counts have, with the line of the totals
+-- how many numbers these have
+abbrev pub numbersIn : Counts → ℕ
+numbersIn c =
+    widthOf Event * c .events
+    + widthOf Treaty * c .treaties
+    + widthOf Risk * c .risk
+    + widthOf Cat * c .cat
+    + widthOf Total
+
+-- as many numbers as lines of these counts have
 pub record Fits (ns : List ℕ) (c : Counts) : Type 0 where
-  pub numbers : length ns
-      ≡ widthOf Event * c .events
-      + widthOf Treaty * c .treaties
-      + widthOf Risk * c .risk
-      + widthOf Cat * c .cat
-      + widthOf Total
+  pub numbers : length ns ≡ numbersIn c
   pub events : c .events < 2 ^ 16
   pub treaties : c .treaties ≤ 8
   pub risk : c .risk ≤ 8
