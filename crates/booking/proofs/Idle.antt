@@ -7,12 +7,12 @@ use native.Mathlib.Omega.{arith}
 use Rattle.text.specs.Buffer.{Put}
 use Rattle.treaty.specs.declared.Treaty.{Treaty}
 use Rattle.layer.specs.declared.record.Layer.{Layer}
-use Rattle.layer.specs.Tier.{layersAfter, recoveriesBy, chargesBy, layersOf}
+use Rattle.layer.specs.Tier.{recoveriesBy, chargesBy, layersOf}
 use Rattle.layer.proofs.Unreached.{layers-unreached, recoveries-unreached, charges-unreached, unreached-from}
 use Rattle.layer.proofs.Unreached.{From, Unreached}
 use Rattle.events.specs.Event.{Event}
 use Rattle.year.specs.declared.Amounts.{Amounts}
-use Rattle.year.specs.Event.{Year, subjectOf, eventAfter, eventAmounts}
+use Rattle.year.specs.Event.{subjectOf, eventAfter, eventAmounts}
 use Rattle.year.specs.Statement.{added, eventNumbers}
 use Rattle.booking.specs.declared.progress.Progress.{Progress}
 use Rattle.booking.specs.Records.{yearIn, SoundRecords}
@@ -48,7 +48,8 @@ module _ (ts : List Treaty) (p : Progress) (sound : SoundRecords (p .records)) (
   amounts-none : added [] ≡ eventAmounts ts (yearIn (p .records)) idle
   unfolding subjectOf
   amounts-none =
-      let cat : 0 ≡ recoveriesBy 0 cats = omega (arith, recoveries-unreached (0 ∷ []) cats (sound .cat .each) reached) in
+      let cat : 0 ≡ recoveriesBy 0 cats =
+      omega (arith, recoveries-unreached (0 ∷ []) cats (sound .cat .each) reached) in
       let charged : 0 ≡ 0 + chargesBy 0 cats =
       omega (arith, charges-unreached (0 ∷ []) cats (sound .cat .each) reached) in
       λ i. record { gross = 0; ceded = 0; risk = 0; cat = cat i; net = 0 - cat i; premium = charged i }
@@ -66,7 +67,8 @@ module _ (ts : List Treaty) (p : Progress) (sound : SoundRecords (p .records)) (
       alone : (m : ℕ) → m ≡ m + (0 + 0)
       alone m = omega arith
 
-  pub idle-booked : (next : ℕ) (d d′ cs : List ℕ) → Put d (p .kept) (eventNumbers (record { day = day; amounts = added [] })) d′ next
+  pub idle-booked : (next : ℕ) (d d′ cs : List ℕ)
+      → Put d (p .kept) (eventNumbers (record { day = day; amounts = added [] })) d′ next
       → Booked ts p idle d d′ cs cs (record { records = p .records; day = day; total = p .total; kept = next })
   idle-booked next d d′ cs put = record {
     year = year-same;

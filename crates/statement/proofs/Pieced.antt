@@ -1,5 +1,5 @@
--- The lines of a statement put piece by piece are their templates, filled: a line's pieces, each with the number after
--- it, put one after another.
+-- A line of a statement that is put piece by piece, each piece with the number after it, is its template, filled. What
+-- follows a piece in the template is found by computing, so that a piece that differs by a byte is refused.
 -- Assumes nothing.
 use mathlib.Core.Path.{_≡_, refl}
 use mathlib.Core.List.{List, [], _∷_, _++_}
@@ -12,7 +12,7 @@ use Rattle.text.specs.Bytes.{bytes}
 use Rattle.text.specs.Number.{digits}
 use Rattle.text.specs.Template.{capital, holes, filled}
 use Rattle.text.proofs.Puts.{put-whole, put-append}
-use Rattle.text.proofs.Pieces.{Piecing, none-pieced, field-put, piece-put, rest-pieced, last-put}
+use Rattle.text.proofs.Pieces.{none-pieced, field-put, piece-put, rest-pieced, last-put}
 use Rattle.year.specs.Statement.{eventTemplate, treatyTemplate, riskTemplate, catTemplate, totalTemplate}
 use Rattle.statement.specs.Forms.{templateOf, widthOf, amountsTail, lastTail, figuresTail}
 use Rattle.statement.specs.declared.row.Form.{Form}
@@ -28,27 +28,31 @@ module _ (ns : List ℕ) {d d₁ d₂ : List ℕ} {at a₁ end : ℕ} where
       → Put d at (filled eventTemplate ns (10 ∷ [])) d₂ end
   unfolding holes capital
   event-put p₁ p₂ =
-      rest-pieced (field-put (bytes "(event ") 68 amountsTail (none-pieced d at ns (10 ∷ []) 0 eventTemplate) refl refl p₁ 1 refl) p₂
+      let g = none-pieced d at ns (10 ∷ []) 0 eventTemplate in
+      rest-pieced (field-put (bytes "(event ") _ _ g refl refl p₁ 1 refl) p₂
 
   pub risk-put : Put d at (bytes "(layer risk " ++ digits (getD ns 0 0)) d₁ a₁
       → Put d₁ a₁ (filled figuresTail (drop 1 ns) (10 ∷ [])) d₂ end
       → Put d at (filled riskTemplate ns (10 ∷ [])) d₂ end
   unfolding holes capital
   risk-put p₁ p₂ =
-      rest-pieced (field-put (bytes "(layer risk ") 73 figuresTail (none-pieced d at ns (10 ∷ []) 0 riskTemplate) refl refl p₁ 1 refl) p₂
+      let g = none-pieced d at ns (10 ∷ []) 0 riskTemplate in
+      rest-pieced (field-put (bytes "(layer risk ") _ _ g refl refl p₁ 1 refl) p₂
 
   pub cat-put : Put d at (bytes "(layer cat " ++ digits (getD ns 0 0)) d₁ a₁
       → Put d₁ a₁ (filled figuresTail (drop 1 ns) (10 ∷ [])) d₂ end
       → Put d at (filled catTemplate ns (10 ∷ [])) d₂ end
   unfolding holes capital
   cat-put p₁ p₂ =
-      rest-pieced (field-put (bytes "(layer cat ") 73 figuresTail (none-pieced d at ns (10 ∷ []) 0 catTemplate) refl refl p₁ 1 refl) p₂
+      let g = none-pieced d at ns (10 ∷ []) 0 catTemplate in
+      rest-pieced (field-put (bytes "(layer cat ") _ _ g refl refl p₁ 1 refl) p₂
 
   pub total-put : Put d at (bytes "(total") d₁ a₁ → Put d₁ a₁ (filled amountsTail (drop 0 ns) (10 ∷ [])) d₂ end
       → Put d at (filled totalTemplate ns (10 ∷ [])) d₂ end
   unfolding holes capital
   total-put p₁ p₂ =
-      rest-pieced (piece-put (bytes "(total") amountsTail (none-pieced d at ns (10 ∷ []) 0 totalTemplate) refl p₁) p₂
+      let g = none-pieced d at ns (10 ∷ []) 0 totalTemplate in
+      rest-pieced (piece-put (bytes "(total") _ g refl p₁) p₂
 
   pub treaty-put : {d₃ : List ℕ} {a₂ : ℕ} → Put d at (bytes "(treaty " ++ digits (getD ns 0 0)) d₁ a₁
       → Put d₁ a₁ (bytes " (ceded " ++ digits (getD ns 1 0)) d₂ a₂
@@ -57,8 +61,8 @@ module _ (ns : List ℕ) {d d₁ d₂ : List ℕ} {at a₁ end : ℕ} where
   unfolding holes capital
   treaty-put p₁ p₂ p₃ =
       let g₀ = none-pieced d at ns (10 ∷ []) 0 treatyTemplate in
-      let g₁ = field-put (bytes "(treaty ") 84 (bytes " (ceded C))") g₀ refl refl p₁ 1 refl in
-      let g₂ = field-put (bytes " (ceded ") 67 (bytes "))") g₁ refl refl p₂ 2 refl in
+      let g₁ = field-put (bytes "(treaty ") _ _ g₀ refl refl p₁ 1 refl in
+      let g₂ = field-put (bytes " (ceded ") _ _ g₁ refl refl p₂ 2 refl in
       last-put (bytes "))") g₂ refl p₃
 
 -- the amounts of an event or of a run, from the place k of a line's numbers on: the last three, and all six
@@ -71,9 +75,9 @@ module _ (ns : List ℕ) (k : ℕ) {d d₁ d₂ d₃ d₄ : List ℕ} {at a₁ a
   unfolding holes capital
   last-amounts p₁ p₂ p₃ p₄ =
       let g₀ = none-pieced d at ns (10 ∷ []) k lastTail in
-      let g₁ = field-put (bytes ") (cat ") 75 (bytes ") (net N) (premium P))") g₀ refl refl p₁ (k + 1) refl in
-      let g₂ = field-put (bytes ") (net ") 78 (bytes ") (premium P))") g₁ refl refl p₂ (k + 2) (omega arith) in
-      let g₃ = field-put (bytes ") (premium ") 80 (bytes "))") g₂ refl refl p₃ (k + 3) (omega arith) in
+      let g₁ = field-put (bytes ") (cat ") _ _ g₀ refl refl p₁ (k + 1) refl in
+      let g₂ = field-put (bytes ") (net ") _ _ g₁ refl refl p₂ (k + 2) (omega arith) in
+      let g₃ = field-put (bytes ") (premium ") _ _ g₂ refl refl p₃ (k + 3) (omega arith) in
       last-put (bytes "))") g₃ refl p₄
 
   pub amounts-put : Put d at (bytes " (gross " ++ digits (getD ns k 0)) d₁ a₁
@@ -84,9 +88,9 @@ module _ (ns : List ℕ) (k : ℕ) {d d₁ d₂ d₃ d₄ : List ℕ} {at a₁ a
   unfolding holes capital
   amounts-put p₁ p₂ p₃ p₄ =
       let g₀ = none-pieced d at ns (10 ∷ []) k amountsTail in
-      let g₁ = field-put (bytes " (gross ") 71 (bytes ") (ceded C) (risk R) (cat K) (net N) (premium P))") g₀ refl refl p₁ (k + 1) refl in
-      let g₂ = field-put (bytes ") (ceded ") 67 (bytes ") (risk R) (cat K) (net N) (premium P))") g₁ refl refl p₂ (k + 2) (omega arith) in
-      let g₃ = field-put (bytes ") (risk ") 82 lastTail g₂ refl refl p₃ (k + 3) (omega arith) in
+      let g₁ = field-put (bytes " (gross ") _ _ g₀ refl refl p₁ (k + 1) refl in
+      let g₂ = field-put (bytes ") (ceded ") _ _ g₁ refl refl p₂ (k + 2) (omega arith) in
+      let g₃ = field-put (bytes ") (risk ") _ _ g₂ refl refl p₃ (k + 3) (omega arith) in
       rest-pieced g₃ p₄
 
 -- the figures of a layer, after its place
@@ -100,10 +104,10 @@ pub figures-put : (ns : List ℕ) {d d₁ d₂ d₃ d₄ d₅ : List ℕ} {at a�
 unfolding holes capital
 figures-put ns {d} {at = at} p₁ p₂ p₃ p₄ p₅ =
     let g₀ = none-pieced d at ns (10 ∷ []) 1 figuresTail in
-    let g₁ = field-put (bytes " (deductible ") 68 (bytes ") (cover C) (recovered R) (premium P))") g₀ refl refl p₁ 2 refl in
-    let g₂ = field-put (bytes ") (cover ") 67 (bytes ") (recovered R) (premium P))") g₁ refl refl p₂ 3 refl in
-    let g₃ = field-put (bytes ") (recovered ") 82 (bytes ") (premium P))") g₂ refl refl p₃ 4 refl in
-    let g₄ = field-put (bytes ") (premium ") 80 (bytes "))") g₃ refl refl p₄ 5 refl in
+    let g₁ = field-put (bytes " (deductible ") _ _ g₀ refl refl p₁ 2 refl in
+    let g₂ = field-put (bytes ") (cover ") _ _ g₁ refl refl p₂ 3 refl in
+    let g₃ = field-put (bytes ") (recovered ") _ _ g₂ refl refl p₃ 4 refl in
+    let g₄ = field-put (bytes ") (premium ") _ _ g₃ refl refl p₄ 5 refl in
     last-put (bytes "))") g₄ refl p₅
 
 -- a line of a kind that is known
@@ -117,7 +121,7 @@ module _ {f k : Form} (e : f ≡ k) where
 
 -- a line that was put into a buffer z of its own, and put from there
 module _ {z l w : List ℕ} {end : ℕ} (p : Put z 0 w l end) (room : end ≤ length z) where
-  pub line-is : take end l ≡ w
+  line-is : take end l ≡ w
   line-is =
       let size : length w ≡ end = omega (arith, p .place) in
       rw (put-whole (omega (arith, size)) p) (take-at w (drop (length w) z) end size)

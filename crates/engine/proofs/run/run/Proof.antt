@@ -48,15 +48,7 @@ returns-3 c =
     (tested .passes .ensures) (standing .if2 .taken) (c .before .if3 .taken) _ (c .refused3 .ensures)
 
 placed-requires : tie.Need-placed-requires
-placed-requires c κs =
-    let fits = c .before in
-    let standing = fits .before in
-    let tested = standing .before in
-    let valid = tested .before in
-    let held = valid .before in
-    let start = held .before .before .before in
-    law.can-run _ _ _ (start .args .buffer .now) _ (held .holds .ensures) (valid .if1 .taken) _
-    (tested .passes .ensures) (standing .if2 .taken) _ (fits .if3 .left)
+placed-requires c κs = search law.can-run
 
 same-length : tie.Need-same-length
 same-length c = search needs

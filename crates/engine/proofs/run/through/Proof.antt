@@ -19,12 +19,7 @@ slice-aggregate-pass : tie.Need-slice-aggregate-pass
 slice-aggregate-pass c = search needs
 
 pass-requires : tie.Need-pass-requires
-pass-requires c κs =
-    let first = c .before .before in
-    let register = first .before in
-    let start = register .before .before .before .before .before in
-    law.can-pass _ _ _ _ (start .pre .0) (start .pre .1) _
-    (first .first .ensures) _ (register .register-of .ensures)
+pass-requires c κs = search law.can-pass
 
 refused-requires : tie.Need-refused-requires
 refused-requires c κs = search needs

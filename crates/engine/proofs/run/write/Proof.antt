@@ -30,12 +30,7 @@ same-length : tie.Need-same-length
 same-length c = search needs
 
 returns : tie.Need-returns
-returns c =
-    let put = c .before .before .before in
-    let few = put .before .before in
-    let start = few .before .before .before .before .before .before in
-    law.at-once _ _ _ _ (start .args .buffer .now) (put .put-statement .ensures .0) (put .put-statement .ensures .1)
-    (few .if1 .taken) _ (c .written .ensures)
+returns c = search law.at-once
 
 write-measured-requires : tie.Need-write-measured-requires
 write-measured-requires c κs = search needs

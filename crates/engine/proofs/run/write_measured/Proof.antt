@@ -12,11 +12,7 @@ refused-requires : tie.Need-refused-requires
 refused-requires c κs = search needs
 
 returns : tie.Need-returns
-returns c =
-    let long = c .before in
-    let measured = long .before in
-    let start = measured .before .before .before in
-    law.not-written _ _ _ _ (start .args .buffer .now) (measured .measure .ensures) (long .if1 .taken) _ (c .refused .ensures)
+returns c = search law.not-written
 
 put-statement-requires : tie.Need-put-statement-requires
 put-statement-requires c κs = search needs
@@ -33,7 +29,8 @@ returns-2 c =
     let fits = put .before .before in
     let measured = fits .before in
     let start = measured .before .before .before in
-    law.written _ _ _ _ (start .args .buffer .now) (measured .measure .ensures) (fits .if1 .left) (put .put-statement .ensures .0) _ (c .written .ensures)
+    law.written _ _ _ _ (start .args .buffer .now) (measured .measure .ensures) (fits .if1 .left)
+    (put .put-statement .ensures .0) _ (c .written .ensures)
 
 pub write-measured-spec : {M : Type 1} → statement M
 write-measured-spec =

@@ -201,95 +201,26 @@ add-at : tie.Need-add-at Inv-losses μ-losses Inv-lines μ-lines
 add-at c = search needs
 
 keep-idle-requires : tie.Need-keep-idle-requires Inv-losses μ-losses Inv-lines μ-lines
-keep-idle-requires c κs =
-    let fine = c .before .before in
-    let fault = fine .before in
-    let closing = fault .before in
-    let ended = closing .before in
-    let listed = ended .before in
-    let headed = listed .before .before .before .before .before .before .before in
-    let line = headed .before in
-    let tested = line .before in
-    let lines = tested .before in
-    law.place-fits _ _ _ _ _ _ _ _ _ _ _ _ (lines .lines .inv) _ (line .end .ensures .0)
-    (tested .lines-test .taken) (line .end .ensures .2) (headed .if1 .left) _ _ _ _ _ _ (listed .losses .inv)
-    (ended .losses-test .left) _ (closing .closes .ensures) _ (fault .fault .ensures) (fine .if2 .left)
+keep-idle-requires c κs = search law.place-fits
 
 lines-less : tie.Need-lines-less Inv-losses μ-losses Inv-lines μ-lines
-lines-less c =
-    let midway = c .before .before .before .before .before .before in
-    let headed = midway .before .before .before .before .before .before .before .before .before .before in
-    let line = headed .before in
-    let tested = line .before in
-    let lines = tested .before in
-    law.less-ahead _ _ _ _ _ _ _ _ _ _ _ _ (lines .lines .inv) _ (line .end .ensures .0)
-    (tested .lines-test .taken) (line .end .ensures .2) (headed .if1 .left) (line .end .ensures .1)
+lines-less c = search law.less-ahead
 
 lines-again : tie.Need-lines-again Inv-losses μ-losses Inv-lines μ-lines
-lines-again c =
-    let idle = c .before .before in
-    let fine = idle .before .before .before in
-    let fault = fine .before in
-    let closing = fault .before in
-    let ended = closing .before in
-    let listed = ended .before in
-    let headed = listed .before .before .before .before .before .before .before in
-    let line = headed .before in
-    let tested = line .before in
-    let lines = tested .before in
-    law.goes-on-idle _ _ _ _ _ _ _ _ _ _ _ _ (lines .lines .inv) _ (line .end .ensures .0)
-    (tested .lines-test .taken) (line .end .ensures .2) (headed .if1 .left) _ _ _ _ _ _ (listed .losses .inv)
-    (ended .losses-test .left) _ (closing .closes .ensures) _ (fault .fault .ensures) (fine .if2 .left)
-    (idle .before .before .if3 .taken) _ _ (idle .keep-idle .ensures) (idle .keep-idle .kept .0)
+lines-again c = search law.goes-on-idle
 
 mul-losses : tie.Need-mul-losses Inv-losses μ-losses Inv-lines μ-lines
 mul-losses c = search needs
 
 array-share-prefix-losses :
     tie.Need-array-share-prefix-losses Inv-losses μ-losses Inv-lines μ-lines
-array-share-prefix-losses c =
-    let fine = c .before in
-    let fault = fine .before in
-    let closing = fault .before in
-    let ended = closing .before in
-    let listed = ended .before in
-    let headed = listed .before .before .before .before .before .before .before in
-    let line = headed .before in
-    let tested = line .before in
-    let lines = tested .before in
-    law.three-inside _ _ _ _ _ _ _ _ _ _ _ _ (lines .lines .inv) _ (line .end .ensures .0)
-    (tested .lines-test .taken) (line .end .ensures .2) (headed .if1 .left) _ _ _ _ _ _ (listed .losses .inv)
-    (ended .losses-test .left) _ (closing .closes .ensures) _ (fault .fault .ensures) (fine .if2 .left)
+array-share-prefix-losses c = search law.three-inside
 
 slice-aggregate-book : tie.Need-slice-aggregate-book Inv-losses μ-losses Inv-lines μ-lines
-slice-aggregate-book c =
-    let fine = c .before .before in
-    let fault = fine .before in
-    let closing = fault .before in
-    let ended = closing .before in
-    let listed = ended .before in
-    let headed = listed .before .before .before .before .before .before .before in
-    let line = headed .before in
-    let tested = line .before in
-    let lines = tested .before in
-    law.three-kept _ _ _ _ _ _ _ _ _ _ _ _ (lines .lines .inv) _ (line .end .ensures .0)
-    (tested .lines-test .taken) (line .end .ensures .2) (headed .if1 .left) _ _ _ _ _ _ (listed .losses .inv)
-    (ended .losses-test .left) _ (closing .closes .ensures) _ (fault .fault .ensures) (fine .if2 .left)
+slice-aggregate-book c = search law.three-kept
 
 book-requires : tie.Need-book-requires Inv-losses μ-losses Inv-lines μ-lines
-book-requires c κs =
-    let fine = c .before .before .before .before in
-    let fault = fine .before in
-    let closing = fault .before in
-    let ended = closing .before in
-    let listed = ended .before in
-    let headed = listed .before .before .before .before .before .before .before in
-    let line = headed .before in
-    let tested = line .before in
-    let lines = tested .before in
-    law.can-book _ _ _ _ _ _ _ _ _ _ _ _ (lines .lines .inv) _ (line .end .ensures .0)
-    (tested .lines-test .taken) (line .end .ensures .2) (headed .if1 .left) _ _ _ _ _ _ (listed .losses .inv)
-    (ended .losses-test .left) _ (closing .closes .ensures) _ (fault .fault .ensures) (fine .if2 .left)
+book-requires c κs = search law.can-book
 
 lines-less-2 : tie.Need-lines-less-2 Inv-losses μ-losses Inv-lines μ-lines
 lines-less-2 c =

@@ -39,13 +39,7 @@ same-length : tie.Need-same-length
 same-length c = search needs
 
 returns : tie.Need-returns
-returns c =
-    let last = c .before .before in
-    let risk = last .before .before .before .before in
-    let ceded = risk .before .before .before .before .before in
-    let gross = ceded .before .before .before .before .before in
-    let start = gross .before .before .before .before .before in
-    (law.amounts-put (start .args .row .now) (start .args .from) (gross .put-field .ensures .0) (ceded .put-field2 .ensures .0) (risk .put-field3 .ensures .0) (last .put-last .ensures .0), search needs)
+returns c = (search law.amounts-put, search needs)
 
 pub put-amounts-spec : {M : Type 1} → statement M
 put-amounts-spec =

@@ -18,11 +18,7 @@ same-length : tie.Need-same-length
 same-length c = search needs
 
 returns : tie.Need-returns
-returns c =
-    let figures = c .before .before in
-    let place = figures .before .before .before .before in
-    let start = place .before .before .before .before .before in
-    (law.cat-put (start .args .row .now) (place .put-field .ensures .0) (figures .put-figures .ensures .0), search needs)
+returns c = (search law.cat-put, search needs)
 
 pub put-cat-spec : {M : Type 1} → statement M
 put-cat-spec =

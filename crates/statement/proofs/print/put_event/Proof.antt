@@ -18,11 +18,7 @@ same-length : tie.Need-same-length
 same-length c = search needs
 
 returns : tie.Need-returns
-returns c =
-    let amounts = c .before .before in
-    let day = amounts .before .before .before .before in
-    let start = day .before .before .before .before .before in
-    (law.event-put (start .args .row .now) (day .put-field .ensures .0) (amounts .put-amounts .ensures .0), search needs)
+returns c = (search law.event-put, search needs)
 
 pub put-event-spec : {M : Type 1} → statement M
 put-event-spec =

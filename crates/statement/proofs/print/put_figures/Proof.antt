@@ -45,8 +45,11 @@ returns c =
     let recovered = premium .before .before .before .before .before in
     let cover = recovered .before .before .before .before .before in
     let deductible = cover .before .before .before .before .before in
-    let start = deductible .before .before .before .before .before in
-    (law.figures-put (start .args .row .now) (deductible .put-field .ensures .0) (cover .put-field2 .ensures .0) (recovered .put-field3 .ensures .0) (premium .put-field4 .ensures .0) (end .put-within .ensures), search needs)
+    let a = deductible .before .before .before .before .before .args in (
+      law.figures-put (a .row .now) (deductible .put-field .ensures .0) (cover .put-field2 .ensures .0)
+          (recovered .put-field3 .ensures .0) (premium .put-field4 .ensures .0) (end .put-within .ensures),
+      search needs,
+    )
 
 pub put-figures-spec : {M : Type 1} → statement M
 put-figures-spec =

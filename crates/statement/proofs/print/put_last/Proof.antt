@@ -44,8 +44,11 @@ returns c =
     let premium = end .before .before .before .before .before in
     let net = premium .before .before .before .before .before in
     let cat = net .before .before .before .before .before in
-    let start = cat .before .before .before .before .before in
-    (law.last-amounts (start .args .row .now) (start .args .from) (cat .put-field .ensures .0) (net .put-field2 .ensures .0) (premium .put-field3 .ensures .0) (end .put-within .ensures), search needs)
+    let a = cat .before .before .before .before .before .args in (
+      law.last-amounts (a .row .now) (a .from) (cat .put-field .ensures .0) (net .put-field2 .ensures .0)
+          (premium .put-field3 .ensures .0) (end .put-within .ensures),
+      search needs,
+    )
 
 pub put-last-spec : {M : Type 1} → statement M
 put-last-spec =

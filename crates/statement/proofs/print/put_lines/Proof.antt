@@ -8,7 +8,8 @@ use Rattle.statement.proofs.print.put_lines.Statement.{statement}
 use Rattle.statement.proofs.print.put_lines.Tie as tie
 
 abbrev Inv-loop : tie.InvT-loop
-Inv-loop out₀ at form count numbers from wide next₀ begin₀ i₀ out next begin i = law.Lined (templateOf form) wide count numbers from out₀ at out next begin i
+Inv-loop out₀ at form count numbers from wide next₀ begin₀ i₀ out next begin i =
+    law.Lined (templateOf form) wide count numbers from out₀ at out next begin i
 
 abbrev μ-loop : tie.MeasureT-loop
 μ-loop out₀ at form count numbers from wide next₀ begin₀ i₀ out next begin i = count - i
@@ -21,7 +22,8 @@ loop-holds c = search law.none-lined
 
 add-end : tie.Need-add-end Inv-loop μ-loop
 add-end c =
-    let h = law.row-inside _ _ _ _ _ _ _ _ (c .before .before .width .ensures) _ _ _ _ (c .before .loop .inv) (search needs) in
+    let more = c .before in
+    let h = law.row-inside _ _ _ _ _ _ _ _ (more .before .width .ensures) _ _ _ _ (more .loop .inv) (search needs) in
     search needs
 
 mul-put-line : tie.Need-mul-put-line Inv-loop μ-loop

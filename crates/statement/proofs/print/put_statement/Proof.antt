@@ -51,8 +51,9 @@ returns c =
     let risk = cat .before .before .before .before in
     let treaties = risk .before .before .before .before in
     let events = treaties .before .before .before .before in (
-      law.statement-put _ _ (events .put-lines .ensures .0) (treaties .put-lines2 .ensures .0) (risk .put-lines3 .ensures .0) (cat .put-lines4 .ensures .0) (total .put-lines5 .ensures .0),
-      law.lines-short _ (events .put-lines .ensures .1) (treaties .put-lines2 .ensures .1) (risk .put-lines3 .ensures .1) (cat .put-lines4 .ensures .1) (total .put-lines5 .ensures .1),
+      law.statement-put _ _ (events .put-lines .ensures .0) (treaties .put-lines2 .ensures .0)
+          (risk .put-lines3 .ensures .0) (cat .put-lines4 .ensures .0) (total .put-lines5 .ensures .0),
+      search law.lines-short,
     )
 
 pub put-statement-spec : {M : Type 1} → statement M

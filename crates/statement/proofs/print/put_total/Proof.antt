@@ -18,11 +18,7 @@ same-length : tie.Need-same-length
 same-length c = search needs
 
 returns : tie.Need-returns
-returns c =
-    let amounts = c .before .before in
-    let word = amounts .before .before .before .before in
-    let start = word .before .before .before .before .before in
-    (law.total-put (start .args .row .now) (word .put-within .ensures) (amounts .put-amounts .ensures .0), search needs)
+returns c = (search law.total-put, search needs)
 
 pub put-total-spec : {M : Type 1} → statement M
 put-total-spec =

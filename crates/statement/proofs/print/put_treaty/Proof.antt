@@ -27,12 +27,7 @@ same-length : tie.Need-same-length
 same-length c = search needs
 
 returns : tie.Need-returns
-returns c =
-    let end = c .before .before in
-    let ceded = end .before .before .before .before .before in
-    let number = ceded .before .before .before .before .before in
-    let start = number .before .before .before .before .before in
-    (law.treaty-put (start .args .row .now) (number .put-field .ensures .0) (ceded .put-field2 .ensures .0) (end .put-within .ensures), search needs)
+returns c = (search law.treaty-put, search needs)
 
 pub put-treaty-spec : {M : Type 1} → statement M
 put-treaty-spec =

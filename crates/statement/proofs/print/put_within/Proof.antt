@@ -9,96 +9,61 @@ enum-told : tie.Need-enum-told
 enum-told c = search needs
 
 put-event-requires : tie.Need-put-event-requires
-put-event-requires c κs =
-    let told = c .before in
-    let start = told .before .before .before .before in
-    (search needs, law.known-width (told .enum-told .given .1) (start .pre .1))
+put-event-requires c κs = (search needs, search law.known-width)
 
 enum-told-2 : tie.Need-enum-told-2
 enum-told-2 c = search needs
 
 put-treaty-requires : tie.Need-put-treaty-requires
-put-treaty-requires c κs =
-    let told = c .before in
-    let start = told .before .before .before .before in
-    (search needs, law.known-width (told .enum-told2 .given .1) (start .pre .1))
+put-treaty-requires c κs = (search needs, search law.known-width)
 
 enum-told-3 : tie.Need-enum-told-3
 enum-told-3 c = search needs
 
 put-risk-requires : tie.Need-put-risk-requires
-put-risk-requires c κs =
-    let told = c .before in
-    let start = told .before .before .before .before in
-    (search needs, law.known-width (told .enum-told3 .given .1) (start .pre .1))
+put-risk-requires c κs = (search needs, search law.known-width)
 
 enum-told-4 : tie.Need-enum-told-4
 enum-told-4 c = search needs
 
 put-cat-requires : tie.Need-put-cat-requires
-put-cat-requires c κs =
-    let told = c .before in
-    let start = told .before .before .before .before in
-    (search needs, law.known-width (told .enum-told4 .given .1) (start .pre .1))
+put-cat-requires c κs = (search needs, search law.known-width)
 
 enum-told-5 : tie.Need-enum-told-5
 enum-told-5 c = search needs
 
 put-total-requires : tie.Need-put-total-requires
-put-total-requires c κs =
-    let told = c .before in
-    let start = told .before .before .before .before in
-    (search needs, law.known-width (told .enum-told5 .given .1) (start .pre .1))
+put-total-requires c κs = (search needs, search law.known-width)
 
 same-length : tie.Need-same-length
 same-length c = search needs
 
 returns : tie.Need-returns
-returns c =
-    let put = c .before .before in
-    let told = put .before .before in
-    let start = told .before .before .before .before in
-    (law.known-put (told .enum-told .given .1) (start .args .row .now) (put .put-event .ensures .0), search needs)
+returns c = (search law.known-put, search needs)
 
 same-length-2 : tie.Need-same-length-2
 same-length-2 c = search needs
 
 returns-2 : tie.Need-returns-2
-returns-2 c =
-    let put = c .before .before in
-    let told = put .before .before in
-    let start = told .before .before .before .before in
-    (law.known-put (told .enum-told2 .given .1) (start .args .row .now) (put .put-treaty .ensures .0), search needs)
+returns-2 c = (search law.known-put, search needs)
 
 same-length-3 : tie.Need-same-length-3
 same-length-3 c = search needs
 
 returns-3 : tie.Need-returns-3
-returns-3 c =
-    let put = c .before .before in
-    let told = put .before .before in
-    let start = told .before .before .before .before in
-    (law.known-put (told .enum-told3 .given .1) (start .args .row .now) (put .put-risk .ensures .0), search needs)
+returns-3 c = (search law.known-put, search needs)
 
 same-length-4 : tie.Need-same-length-4
 same-length-4 c = search needs
 
 returns-4 : tie.Need-returns-4
-returns-4 c =
-    let put = c .before .before in
-    let told = put .before .before in
-    let start = told .before .before .before .before in
-    (law.known-put (told .enum-told4 .given .1) (start .args .row .now) (put .put-cat .ensures .0), search needs)
+returns-4 c = (search law.known-put, search needs)
 
 same-length-5 : tie.Need-same-length-5
 same-length-5 c = search needs
 
 returns-5 : tie.Need-returns-5
-returns-5 c =
-    let put = c .before .before in
-    let told = put .before .before in
-    let start = told .before .before .before .before in
-    (law.known-put (told .enum-told5 .given .1) (start .args .row .now) (put .put-total .ensures .0), search needs)
+returns-5 c = (search law.known-put, search needs)
 
 pub put-within-spec : {M : Type 1} → statement M
 put-within-spec =
