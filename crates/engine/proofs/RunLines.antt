@@ -70,7 +70,7 @@ record Accepted (p : Programme) (s : Standing) (text d₀ : List ℕ) (start : P
   stands : Stands (treatiesIn (p .treaties)) start d₀ (replicate 9 0) es r d cs
   few : 10 * length es ≤ length text
 
-module _ (p : Programme) (s : Standing) (text d₀ : List ℕ) (can : CanRun 65536 p s text)
+module _ {p : Programme} {s : Standing} {text d₀ : List ℕ} (can : CanRun 65536 p s text)
     (places : PlacesFor text d₀) where
   abbrev ts : List Treaty
   ts = treatiesIn (p .treaties)
@@ -84,7 +84,7 @@ module _ (p : Programme) (s : Standing) (text d₀ : List ℕ) (can : CanRun 655
   numbers : Each (λ (t : Treaty). t .number ≤ 8) ts
   numbers = passed-numbers 0 ts passes
 
-  module _ (start : Progress) (f : FirstOf p s start) (register : Register)
+  module _ {start : Progress} (f : FirstOf p s start) {register : Register}
       (m : register ≡ registerOf (p .treaties)) where
     same-treaties : register .treaties ≡ p .treaties
     same-treaties = ap (λ (t : Register). t .treaties) m

@@ -7,10 +7,27 @@ use Rattle.engine.proofs.RunLines as law
 use Rattle.engine.proofs.run.through.Statement.{statement}
 use Rattle.engine.proofs.run.through.Tie as tie
 
+-- the places where the lines were passed, the records begun and the register made, and where the function starts
+module _ (c : tie.After-pass) where
+  abbrev begun : tie.After-first
+  begun = c .before .before .before
+
+  abbrev registered : tie.After-register-of
+  registered = begun .before
+
+  abbrev start : tie.Start
+  start = registered .before .before .before .before .before
+
+-- those where no line was at fault, and where the other numbers were kept
+module _ (c : tie.After-keep-rest) where
+  abbrev fine : tie.Else1
+  fine = c .before .before .before .before .before
+
+  abbrev passed : tie.After-pass
+  passed = fine .before .before .before .before
+
 register-of-requires : tie.Need-register-of-requires
-register-of-requires c κs =
-    let start = c .before .before .before .before in
-    valid-tells _ (start .pre .0 .programme) .0
+register-of-requires c κs = valid-tells _ (c .before .before .before .before .pre .0 .programme) .0
 
 first-requires : tie.Need-first-requires
 first-requires c κs = search needs
@@ -29,74 +46,47 @@ same-length c = search needs
 
 returns : tie.Need-returns
 returns c =
-    let passed = c .before .before .before .before .before in
-    let first = passed .before .before .before in
-    let register = first .before in
-    let start = register .before .before .before .before .before in
-    law.line-refused _ _ _ _ (start .pre .0) (start .pre .1) _
-    (first .first .ensures) _ (register .register-of .ensures) _ _ _
-    (passed .pass .ensures) _ _ _ _ _ refl refl (c .before .if1 .taken) (c .refused .ensures)
+    let p = c .before .before .before .before .before in
+    law.line-refused (start p .pre .0) (start p .pre .1) (begun p .first .ensures) (registered p .register-of .ensures)
+    _ _ _ (p .pass .ensures) _ _ _ _ _ refl refl (c .before .if1 .taken) (c .refused .ensures)
 
 slice-aggregate-keep-rest : tie.Need-slice-aggregate-keep-rest
 slice-aggregate-keep-rest c = search needs
 
 keep-rest-requires : tie.Need-keep-rest-requires
 keep-rest-requires c κs =
-    let fine = c .before .before .before .before in
-    let passed = fine .before .before .before .before in
-    let first = passed .before .before .before in
-    let register = first .before in
-    let start = register .before .before .before .before .before in
-    law.can-keep _ _ _ _ (start .pre .0) (start .pre .1) _
-    (first .first .ensures) _ (register .register-of .ensures) _ _ _
-    (passed .pass .ensures) (fine .if1 .left)
+    let f = c .before .before .before .before in
+    let p = f .before .before .before .before in
+    law.can-keep (start p .pre .0) (start p .pre .1) (begun p .first .ensures) (registered p .register-of .ensures)
+    _ _ _ (p .pass .ensures) (f .if1 .left)
 
 standing-requires : tie.Need-standing-requires
 standing-requires c κs =
-    let fine = c .before .before .before .before .before .before .before in
-    let passed = fine .before .before .before .before in
-    let first = passed .before .before .before in
-    let register = first .before in
-    let start = register .before .before .before .before .before in
-    law.records-sound _ _ _ _ (start .pre .0) (start .pre .1) _
-    (first .first .ensures) _ (register .register-of .ensures) _ _ _
-    (passed .pass .ensures) (fine .if1 .left)
+    let k = c .before .before in
+    let p = passed k in
+    law.records-sound (start p .pre .0) (start p .pre .1) (begun p .first .ensures)
+    (registered p .register-of .ensures) _ _ _ (p .pass .ensures) (fine k .if1 .left)
 
 slice-reshare-prefix-write : tie.Need-slice-reshare-prefix-write
 slice-reshare-prefix-write c =
-    let kept = c .before .before .before in
-    let fine = kept .before .before .before .before .before in
-    let passed = fine .before .before .before .before in
-    let first = passed .before .before .before in
-    let register = first .before in
-    let start = register .before .before .before .before .before in
-    law.end-inside _ _ _ _ (start .pre .0) (start .pre .1) _
-    (first .first .ensures) _ (register .register-of .ensures) _ _ _
-    (passed .pass .ensures) (fine .if1 .left) _ _ (kept .keep-rest .ensures .0) (kept .keep-rest .ensures .1)
+    let k = c .before .before .before in
+    let p = passed k in
+    law.end-inside (start p .pre .0) (start p .pre .1) (begun p .first .ensures) (registered p .register-of .ensures)
+    _ _ _ (p .pass .ensures) (fine k .if1 .left) _ _ (k .keep-rest .ensures .0) (k .keep-rest .ensures .1)
 
 slice-aggregate-write : tie.Need-slice-aggregate-write
 slice-aggregate-write c =
-    let kept = c .before .before .before .before in
-    let fine = kept .before .before .before .before .before in
-    let passed = fine .before .before .before .before in
-    let first = passed .before .before .before in
-    let register = first .before in
-    let start = register .before .before .before .before .before in
-    law.end-kept _ _ _ _ (start .pre .0) (start .pre .1) _
-    (first .first .ensures) _ (register .register-of .ensures) _ _ _
-    (passed .pass .ensures) (fine .if1 .left) _ _ (kept .keep-rest .ensures .0) (kept .keep-rest .ensures .1)
+    let k = c .before .before .before .before in
+    let p = passed k in
+    law.end-kept (start p .pre .0) (start p .pre .1) (begun p .first .ensures) (registered p .register-of .ensures)
+    _ _ _ (p .pass .ensures) (fine k .if1 .left) _ _ (k .keep-rest .ensures .0) (k .keep-rest .ensures .1)
 
 write-requires : tie.Need-write-requires
 write-requires c κs =
-    let kept = c .before .before .before .before .before in
-    let fine = kept .before .before .before .before .before in
-    let passed = fine .before .before .before .before in
-    let first = passed .before .before .before in
-    let register = first .before in
-    let start = register .before .before .before .before .before in
-    law.fits _ _ _ _ (start .pre .0) (start .pre .1) _
-    (first .first .ensures) _ (register .register-of .ensures) _ _ _
-    (passed .pass .ensures) (fine .if1 .left) _ _ (kept .keep-rest .ensures .0) (kept .keep-rest .ensures .1)
+    let k = c .before .before .before .before .before in
+    let p = passed k in
+    law.fits (start p .pre .0) (start p .pre .1) (begun p .first .ensures) (registered p .register-of .ensures)
+    _ _ _ (p .pass .ensures) (fine k .if1 .left) _ _ (k .keep-rest .ensures .0) (k .keep-rest .ensures .1)
 
 same-length-2 : tie.Need-same-length-2
 same-length-2 c = search needs
@@ -108,16 +98,11 @@ returns-2 : tie.Need-returns-2
 returns-2 c =
     let written = c .before .before in
     let after = written .before .before .before in
-    let kept = after .before .before .before in
-    let fine = kept .before .before .before .before .before in
-    let passed = fine .before .before .before .before in
-    let first = passed .before .before .before in
-    let register = first .before in
-    let start = register .before .before .before .before .before in
-    law.states _ _ _ _ (start .pre .0) (start .pre .1) _
-    (first .first .ensures) _ (register .register-of .ensures) _ _ _
-    (passed .pass .ensures) (fine .if1 .left) _ _ (kept .keep-rest .ensures .0) (kept .keep-rest .ensures .1) _
-    (after .standing .ensures) (start .args .buffer .now) _ _ (written .write .ensures)
+    let k = after .before .before .before in
+    let p = passed k in
+    law.states (start p .pre .0) (start p .pre .1) (begun p .first .ensures) (registered p .register-of .ensures)
+    _ _ _ (p .pass .ensures) (fine k .if1 .left) _ _ (k .keep-rest .ensures .0) (k .keep-rest .ensures .1) _
+    (after .standing .ensures) (start p .args .buffer .now) _ _ (written .write .ensures)
 
 pub through-spec : {M : Type 1} → statement M
 through-spec =

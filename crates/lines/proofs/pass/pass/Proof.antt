@@ -30,6 +30,20 @@ abbrev μ-lines : tie.MeasureT-lines
     at =
     length text - at
 
+-- the places where a line's losses are read, its end is found and its head read, and where a line begins
+module _ (c : tie.At-losses Inv-losses μ-losses Inv-lines μ-lines) where
+  abbrev headed : tie.Else1 Inv-losses μ-losses Inv-lines μ-lines
+  headed = c .before .before .before .before .before .before .before
+
+  abbrev line : tie.After-end Inv-losses μ-losses Inv-lines μ-lines
+  line = headed .before
+
+  abbrev tested : tie.In-lines Inv-losses μ-losses Inv-lines μ-lines
+  tested = line .before
+
+  abbrev lines : tie.At-lines Inv-losses μ-losses Inv-lines μ-lines
+  lines = tested .before
+
 lines-holds : tie.Need-lines-holds Inv-losses μ-losses Inv-lines μ-lines
 lines-holds c = search law.going-begins
 
@@ -107,9 +121,8 @@ add-outside c = search needs
 
 slice-aggregate-lacks : tie.Need-slice-aggregate-lacks Inv-losses μ-losses Inv-lines μ-lines
 slice-aggregate-lacks c =
-    let midway = c .before .before .before .before .before .before .before .before in
-    let lines = midway .before .before .before .before .before .before .before .before .before in
-    sym (law.lacking-nine _ _ _ _ _ _ _ _ _ _ _ _ (lines .lines .inv))
+    let listed = c .before .before .before .before .before .before .before in
+    sym (law.lacking-nine _ _ _ _ _ _ _ _ _ _ _ _ (lines listed .lines .inv))
 
 lacks-requires : tie.Need-lacks-requires Inv-losses μ-losses Inv-lines μ-lines
 lacks-requires c κs = search law.lacking-nine
@@ -120,12 +133,9 @@ add-lacks c = search law.lacks-fit
 slice-aggregate-keep : tie.Need-slice-aggregate-keep Inv-losses μ-losses Inv-lines μ-lines
 slice-aggregate-keep c =
     let listed = c .before .before .before .before .before .before .before .before .before in
-    let headed = listed .before .before .before .before .before .before .before in
-    let line = headed .before in
-    let tested = line .before in
-    let lines = tested .before in
-    sym (law.numbers-inside _ _ _ _ _ _ _ _ _ _ _ _ (lines .lines .inv) _ (line .end .ensures .0)
-    (tested .lines-test .taken) (line .end .ensures .2) (headed .if1 .left) _ _ _ _ _ _ (listed .losses .inv))
+    sym (law.numbers-inside _ _ _ _ _ _ _ _ _ _ _ _ (lines listed .lines .inv) _ (line listed .end .ensures .0)
+    (tested listed .lines-test .taken) (line listed .end .ensures .2) (headed listed .if1 .left) _ _ _ _ _ _
+    (listed .losses .inv))
 
 mul-keep : tie.Need-mul-keep Inv-losses μ-losses Inv-lines μ-lines
 mul-keep c = search needs
@@ -151,13 +161,9 @@ losses-again c =
     let read = told .before .before in
     let more = read .before in
     let listed = more .before in
-    let headed = listed .before .before .before .before .before .before .before in
-    let line = headed .before in
-    let tested = line .before in
-    let lines = tested .before in
-    law.next-listed _ _ _ _ _ _ _ _ _ _ _ _ (lines .lines .inv) _ (line .end .ensures .0)
-    (tested .lines-test .taken) (line .end .ensures .2) (headed .if1 .left) _ _ _ _ _ _ (listed .losses .inv)
-    (more .losses-test .taken) _ (read .read-loss .ensures) _ _ (told .loss .given .1) _ _ _ _
+    law.next-listed _ _ _ _ _ _ _ _ _ _ _ _ (lines listed .lines .inv) _ (line listed .end .ensures .0)
+    (tested listed .lines-test .taken) (line listed .end .ensures .2) (headed listed .if1 .left) _ _ _ _ _ _
+    (listed .losses .inv) (more .losses-test .taken) _ (read .read-loss .ensures) _ _ (told .loss .given .1) _ _ _ _
     (outside .loss-outside .ensures .0) (outside .loss-outside .ensures .1) (lacks .lacks .ensures)
     (kept .keep .ensures)
 
@@ -172,15 +178,13 @@ refused-requires-3 c κs = search needs
 
 same-length-5 : tie.Need-same-length-5 Inv-losses μ-losses Inv-lines μ-lines
 same-length-5 c =
-    let midway = c .before .before .before .before .before .before .before in
-    let lines = midway .before .before .before .before .before .before .before .before in
-    law.kept-same _ _ _ _ _ _ _ _ _ _ _ _ (lines .lines .inv)
+    let listed = c .before .before .before .before .before in
+    law.kept-same _ _ _ _ _ _ _ _ _ _ _ _ (lines listed .lines .inv)
 
 same-length-6 : tie.Need-same-length-6 Inv-losses μ-losses Inv-lines μ-lines
 same-length-6 c =
-    let midway = c .before .before .before .before .before .before .before in
-    let lines = midway .before .before .before .before .before .before .before .before in
-    law.cessions-same _ _ _ _ _ _ _ _ _ _ _ _ (lines .lines .inv)
+    let listed = c .before .before .before .before .before in
+    law.cessions-same _ _ _ _ _ _ _ _ _ _ _ _ (lines listed .lines .inv)
 
 returns-3 : tie.Need-returns-3 Inv-losses μ-losses Inv-lines μ-lines
 returns-3 c =
@@ -189,13 +193,10 @@ returns-3 c =
     let closing = fault .before in
     let ended = closing .before in
     let listed = ended .before in
-    let headed = listed .before .before .before .before .before .before .before in
-    let line = headed .before in
-    let tested = line .before in
-    let lines = tested .before in
-    law.faulty _ _ _ _ _ _ _ _ _ _ _ _ (lines .lines .inv) _ (line .end .ensures .0) (tested .lines-test .taken)
-    (line .end .ensures .2) (headed .if1 .left) _ _ _ _ _ _ (listed .losses .inv) (ended .losses-test .left) _
-    (closing .closes .ensures) _ (fault .fault .ensures) _ (c .refused3 .ensures) (faulted .if2 .taken)
+    law.faulty _ _ _ _ _ _ _ _ _ _ _ _ (lines listed .lines .inv) _ (line listed .end .ensures .0)
+    (tested listed .lines-test .taken) (line listed .end .ensures .2) (headed listed .if1 .left) _ _ _ _ _ _
+    (listed .losses .inv) (ended .losses-test .left) _ (closing .closes .ensures) _ (fault .fault .ensures) _
+    (c .refused3 .ensures) (faulted .if2 .taken)
 
 add-at : tie.Need-add-at Inv-losses μ-losses Inv-lines μ-lines
 add-at c = search needs
@@ -224,13 +225,11 @@ book-requires c κs = search law.can-book
 
 lines-less-2 : tie.Need-lines-less-2 Inv-losses μ-losses Inv-lines μ-lines
 lines-less-2 c =
-    let midway = c .before .before .before .before .before .before .before .before .before .before in
-    let headed = midway .before .before .before .before .before .before .before .before .before .before in
-    let line = headed .before in
-    let tested = line .before in
-    let lines = tested .before in
-    law.less-ahead _ _ _ _ _ _ _ _ _ _ _ _ (lines .lines .inv) _ (line .end .ensures .0)
-    (tested .lines-test .taken) (line .end .ensures .2) (headed .if1 .left) (line .end .ensures .1)
+    let booked = c .before .before .before .before in
+    let listed = booked .before .before .before .before .before .before .before .before .before in
+    law.less-ahead _ _ _ _ _ _ _ _ _ _ _ _ (lines listed .lines .inv) _ (line listed .end .ensures .0)
+    (tested listed .lines-test .taken) (line listed .end .ensures .2) (headed listed .if1 .left)
+    (line listed .end .ensures .1)
 
 lines-again-2 : tie.Need-lines-again-2 Inv-losses μ-losses Inv-lines μ-lines
 lines-again-2 c =
@@ -240,14 +239,10 @@ lines-again-2 c =
     let closing = fault .before in
     let ended = closing .before in
     let listed = ended .before in
-    let headed = listed .before .before .before .before .before .before .before in
-    let line = headed .before in
-    let tested = line .before in
-    let lines = tested .before in
-    law.goes-on _ _ _ _ _ _ _ _ _ _ _ _ (lines .lines .inv) _ (line .end .ensures .0)
-    (tested .lines-test .taken) (line .end .ensures .2) (headed .if1 .left) _ _ _ _ _ _ (listed .losses .inv)
-    (ended .losses-test .left) _ (closing .closes .ensures) _ (fault .fault .ensures) (fine .if2 .left) _ _ _
-    (booked .book .ensures) (booked .book .kept .1 .1 .1 .1 .0)
+    law.goes-on _ _ _ _ _ _ _ _ _ _ _ _ (lines listed .lines .inv) _ (line listed .end .ensures .0)
+    (tested listed .lines-test .taken) (line listed .end .ensures .2) (headed listed .if1 .left) _ _ _ _ _ _
+    (listed .losses .inv) (ended .losses-test .left) _ (closing .closes .ensures) _ (fault .fault .ensures)
+    (fine .if2 .left) _ _ _ (booked .book .ensures) (booked .book .kept .1 .1 .1 .1 .0)
 
 refused-requires-4 : tie.Need-refused-requires-4 Inv-losses μ-losses Inv-lines μ-lines
 refused-requires-4 c κs = search needs
