@@ -18,7 +18,7 @@ use Rattle.booking.specs.declared.progress.Progress.{Progress}
 use Rattle.booking.specs.Records.{yearIn, SoundRecords}
 use Rattle.booking.specs.Progress.{Booked}
 
--- the numbers of the line of amounts that are none
+-- the numbers of an idle event's line, where it has the amounts a
 pub idle-kept : (day : ℕ) {a : Amounts} {d d′ : List ℕ} {at next : ℕ} → a ≡ added []
     → Put d at (eventNumbers (record { day = day; amounts = a })) d′ next
     → Put d at (eventNumbers (record { day = day; amounts = added [] })) d′ next
@@ -36,22 +36,22 @@ module _ (ts : List Treaty) (p : Progress) (sound : SoundRecords (p .records)) (
   abbrev cats : List Layer
   cats = layersOf (p .records .cat)
 
-  reached : Unreached (0 ∷ []) cats
-  reached = unreached-from (0 ∷ []) 0 (zero-le, tt) cats (from-zero cats)
+  unreached : Unreached (0 ∷ []) cats
+  unreached = unreached-from (0 ∷ []) 0 (zero-le, tt) cats (from-zero cats)
 
   year-same : yearIn (p .records) ≡ eventAfter ts (yearIn (p .records)) idle
   unfolding subjectOf
   year-same =
-      let cat = sym (layers-unreached (0 ∷ []) cats (sound .cat .each) reached) in
+      let cat = sym (layers-unreached (0 ∷ []) cats (sound .cat .each) unreached) in
       λ i. record { risk = layersOf (p .records .risk); cat = cat i }
 
   amounts-none : added [] ≡ eventAmounts ts (yearIn (p .records)) idle
   unfolding subjectOf
   amounts-none =
       let cat : 0 ≡ recoveriesBy 0 cats =
-      omega (arith, recoveries-unreached (0 ∷ []) cats (sound .cat .each) reached) in
+      omega (arith, recoveries-unreached (0 ∷ []) cats (sound .cat .each) unreached) in
       let charged : 0 ≡ 0 + chargesBy 0 cats =
-      omega (arith, charges-unreached (0 ∷ []) cats (sound .cat .each) reached) in
+      omega (arith, charges-unreached (0 ∷ []) cats (sound .cat .each) unreached) in
       λ i. record { gross = 0; ceded = 0; risk = 0; cat = cat i; net = 0 - cat i; premium = charged i }
 
   total-same : p .total ≡ added (p .total ∷ added [] ∷ [])

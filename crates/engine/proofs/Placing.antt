@@ -14,17 +14,18 @@ use Rattle.events.specs.Read.{EventsRead, turnedDown, events, readFrom}
 use Rattle.year.specs.declared.Standing.{Standing}
 use Rattle.year.specs.Statement.{Statement, statementText}
 use Rattle.year.specs.Run.{Outcome, refused, fitted, runThrough, bufferAfter}
+use Rattle.statement.specs.Shows.{leastBytes}
 use Rattle.statement.proofs.Shown.{statement-long}
 use Rattle.engine.specs.declared.run.Ran.{Ran}
 use Rattle.engine.specs.Run.{ranOf, RanAs, runLines}
 
 -- no statement fits
-too-short : (room : ℕ) → room < 65 → (t : Statement) (s : Standing)
+too-short : (room : ℕ) → room < leastBytes → (t : Statement) (s : Standing)
     → fitted room t s ≡ refused 7 (length (statementText t))
 unfolding fitted
 too-short room h t s = simp (fitted, lt-ltb room (length (statementText t)) (omega (arith, statement-long t)))
 
-module _ (c : Contracts) (s : Standing) (room : ℕ) (h : room < 65) where
+module _ (c : Contracts) (s : Standing) (room : ℕ) (h : room < leastBytes) where
   -- what a run comes to is what it comes to without a buffer
   as-none : (o : EventsRead) → runThrough c s 0 o ≡ runThrough c s room o
   as-none (turnedDown n w) = refl
@@ -36,7 +37,7 @@ module _ (c : Contracts) (s : Standing) (room : ℕ) (h : room < 65) where
   left-alone (events es) d = rw (too-short room h)
 
 -- so a run with no bytes of the buffer, put back as e before the others, is that with the whole
-pub as-without : (p : Programme) (s : Standing) (text d e : List ℕ) (r : Ran) → length d < 65
+pub as-without : (p : Programme) (s : Standing) (text d e : List ℕ) (r : Ran) → length d < leastBytes
     → r ≡ ranOf (runLines p s text 0) s → length e ≡ 0 → RanAs (runLines p s text (length d)) s d (e ++ d) r
 as-without p s text d e r h a none =
     let read = readFrom (treatiesIn (p .treaties)) 1 (s .day) (formsOf text) in (

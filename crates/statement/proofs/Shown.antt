@@ -25,7 +25,7 @@ use Rattle.statement.specs.declared.row.Form.{Form}
 use Rattle.statement.specs.declared.row.Form.the-variants.{Event, Treaty, Risk, Cat, Total}
 use Rattle.statement.specs.Numbers.{numbersOf, layersNumbers, rowsText}
 use Rattle.statement.specs.Forms.{templateOf, widthOf}
-use Rattle.statement.specs.Shows.{linesIn, numbersIn, Fits, Shows}
+use Rattle.statement.specs.Shows.{linesIn, numbersIn, leastBytes, Fits, Shows}
 use Rattle.statement.proofs.Rows.{no-rows, more-rows}
 
 pub numbers-append : (ls ms : List Line) → numbersOf (ls ++ ms) ≡ numbersOf ls ++ numbersOf ms
@@ -313,8 +313,8 @@ module _ (ns : List ℕ) (c : Counts) where
   statement-size r e t h =
       omega (arith, size (shownBy t) (countOf c) (kinds t h), e, ap digitsIn (h .numbers))
 
--- it has the line of the totals, and with it 65 bytes or more
-pub statement-long : (t : Statement) → 65 ≤ length (statementText t)
+-- it has the line of the totals, which has a byte or more for each of its template
+pub statement-long : (t : Statement) → leastBytes ≤ length (statementText t)
 unfolding statementText
 statement-long t =
     simp (map-append, joined-append, length-append)

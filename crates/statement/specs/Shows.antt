@@ -4,7 +4,7 @@ use mathlib.Core.Path.{_≡_}
 use mathlib.Core.List.{List}
 use Prim.Native.Nat.{ℕ, _+_, _*_, _^_, _≤_, _<_}
 use lib.ListN.{length}
-use Rattle.year.specs.Statement.{Statement, linesShown}
+use Rattle.year.specs.Statement.{Statement, totalTemplate, linesShown}
 use Rattle.statement.specs.declared.print.Counts.{Counts}
 use Rattle.statement.specs.declared.row.Form.the-variants.{Event, Treaty, Risk, Cat, Total}
 use Rattle.statement.specs.Numbers.{numbersOf}
@@ -22,6 +22,10 @@ numbersIn c =
     + widthOf Risk * c .risk
     + widthOf Cat * c .cat
     + widthOf Total
+
+-- the fewest bytes that a statement has: those of the line of the totals, each number one digit, and the line feed
+abbrev pub leastBytes : ℕ
+leastBytes = length totalTemplate + 1
 
 -- as many numbers as lines of these counts have
 pub record Fits (ns : List ℕ) (c : Counts) : Type 0 where

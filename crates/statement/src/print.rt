@@ -25,6 +25,9 @@ pub struct Counts {
     pub cat: usize,
 }
 
+// The fewest bytes that it has: those of the totals' line, each number one digit, and the line feed.
+pub const SHORTEST: usize = 65;
+
 // A piece of a line and the number after it, which stands at a place of the line's numbers, where there is room for
 // them.
 fn put_field(out: &mut [u8], at: usize, piece: &[u8], row: &[u64], k: usize) -> usize
@@ -206,9 +209,6 @@ pub fn put_statement(out: &mut [u8], numbers: &[u64], counts: Counts) -> usize
     let fourth = put_lines(out, third, Form::Cat, counts.cat, numbers, cat);
     put_lines(out, fourth, Form::Total, 1, numbers, total)
 }
-
-// The fewest bytes that it has: those of the totals' line, each number one digit, with its line feed.
-pub const SHORTEST: usize = 65;
 
 // How many bytes it has: those that stand for themselves in each kind of line, with its line feed, and the digits.
 pub fn measure(numbers: &[u64], counts: Counts) -> usize
