@@ -134,8 +134,8 @@ fn through(
     write(&kept[..end], counts, standing, after, buffer)
 }
 
-// The same with places for a text of at most 1,024 bytes, so that a short text does not pay for a long one: those of an
-// event for each ten bytes, which its line has at least, and those of the lines after the events'.
+// The same with places for a text of at most 1,024 bytes, so that a short text does not pay for a long one: those of
+// an event for each ten bytes, which its line has at least, and those of the lines after the events'.
 fn short(programme: Programme, standing: Standing, events: &[u8], buffer: &mut [u8]) -> Ran
     requires { ⌜ CanRun 1024 programme standing (now events) ⌝ }
     ensures { λ r. ⌜ RanAs (runLines programme standing (now (events .entry)) (length (now (buffer .entry))))
