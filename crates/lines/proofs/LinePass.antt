@@ -48,7 +48,7 @@ use Rattle.lines.specs.Pass.{CanPass, passIs}
 use Rattle.lines.proofs.LossPass.{Listed, none-listed, count-small, same-numbers, one-listed, kept-losses}
 
 -- events before what the lines after them give
-abbrev pub eventsBefore : List Event → EventsRead → EventsRead
+abbrev eventsBefore : List Event → EventsRead → EventsRead
 eventsBefore [] r = r
 eventsBefore (e ∷ es) r = eventBefore e (eventsBefore es r)
 

@@ -24,11 +24,11 @@ use Rattle.losses.specs.Register.{lackAt}
 use Rattle.losses.specs.Cede.{lossesFrom}
 
 -- losses as numbers, three a loss
-abbrev pub lossNumbers : List Loss → List ℕ
+abbrev lossNumbers : List Loss → List ℕ
 lossNumbers [] = []
 lossNumbers (x ∷ xs) = x .treaty ∷ x .maximum ∷ x .amount ∷ lossNumbers xs
 
-pub losses-back : (xs : List Loss) → lossesFrom (lossNumbers xs) ≡ xs
+losses-back : (xs : List Loss) → lossesFrom (lossNumbers xs) ≡ xs
 losses-back [] = refl
 losses-back (x ∷ xs) = ap (λ (ys : List Loss). x ∷ ys) (losses-back xs)
 
