@@ -21,7 +21,7 @@ whole cents; shares and rates are basis points, 10,000 to the whole.
 
 The shared object is the file that the environment's CESSION_LIBRARY names, else libcession.so beside this module, else
 what the system's loader finds under that name. The calls are pure functions of what is lent to them and may run in any
-number of threads at once; a run takes about 24 kB of stack for up to 1,024 bytes of events and about 385 kB for the
+number of threads at once; a run takes about 23 kB of stack for up to 1,024 bytes of events and about 385 kB for the
 longest text, so that a thread of 512 kB has enough.
 """
 
