@@ -30,8 +30,8 @@ fn print_stacks() {
     spoilt.sides.spoil();
     let cases = [
         ("refused with 6", spoilt, 6),
-        ("1,000 bytes of events", Case::of_length(1_000), 0),
-        ("8,190 bytes", Case::of_length(8_190), 0),
+        ("1,024 bytes of events", Case::of_length(1_024), 0),
+        ("8,192 bytes", Case::of_length(8_192), 0),
         ("65,536 bytes", Case::of_length(EVENTS_BYTES), 0),
     ];
     let mut buffer = vec![0; ROOM];

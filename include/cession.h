@@ -20,8 +20,8 @@
 //
 // Stack. A run of up to 1,024 bytes of events takes about 23 kB of stack, one of up to 8,192 bytes about 64 kB and a
 // longer one about 385 kB; the other calls take less than 10 kB. These are measured figures: no theorem bounds the
-// stack. A thread with 512 kB has enough for each call, one with 64 kB for runs of up to 1,024 bytes of events. A stack
-// needs a guard page below it, as the system gives its threads: without one an overrun goes unnoticed.
+// stack. A thread with 512 kB has enough for each call, one with 64 kB for runs of up to 1,024 bytes of events. A
+// stack needs a guard page below it, as the system gives its threads: without one an overrun goes unnoticed.
 //
 // What is proved. The library's calls give, for every input, the result, the standing and the buffer that document 01
 // defines. The declarations in this file are not part of that proof: a test (tests/boundary) compares their sizes and

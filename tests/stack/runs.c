@@ -1,6 +1,6 @@
 // One run in a thread whose stack has so many bytes in all, compared with the same run on the main thread. Called as
-// `runs PROGRAMME EVENTS STACK REFUSAL` with two files, the bytes of the stack and the refusal that both answer, 0 for
-// none. A run that needs more stack ends the process by a signal.
+// `runs PROGRAMME EVENTS STACK REFUSAL ROOM` with two files, the bytes of the stack, the refusal that both answer, 0
+// for none, and the bytes of the buffer lent. A run that needs more stack ends the process by a signal.
 #define _POSIX_C_SOURCE 200809L
 #include "cession.h"
 
@@ -27,6 +27,7 @@ typedef struct {
 static text table, events;
 static cession_programme programme;
 static outcome on_main, in_thread;
+static size_t room;
 
 static void fail(const char *what) {
     fprintf(stderr, "runs.c: %s\n", what);
@@ -44,7 +45,7 @@ static void load(const char *path, text *into) {
 
 static void *run(void *into) {
     outcome *left = into;
-    left->answer = cession_run(programme, &left->standing, events.bytes, events.length, left->buffer, MOST);
+    left->answer = cession_run(programme, &left->standing, events.bytes, events.length, left->buffer, room);
     return NULL;
 }
 
@@ -59,8 +60,8 @@ static void run_in_thread(size_t stack) {
 }
 
 int main(int count, char **arguments) {
-    if (count != 5) {
-        fail("call as runs PROGRAMME EVENTS STACK REFUSAL");
+    if (count != 6) {
+        fail("call as runs PROGRAMME EVENTS STACK REFUSAL ROOM");
     }
     load(arguments[1], &table);
     load(arguments[2], &events);
@@ -69,6 +70,10 @@ int main(int count, char **arguments) {
         fail("the table is refused");
     }
     programme = reading.programme;
+    room = strtoull(arguments[5], NULL, 10);
+    if (room > MOST) {
+        fail("so large a buffer is not here");
+    }
     run(&on_main);
     if (on_main.answer.refusal != strtoull(arguments[4], NULL, 10)) {
         fail("the run on the main thread is answered in another way");

@@ -17,9 +17,9 @@ use Rattle.year.specs.Statement.{EventLine, eventLines, added, totals, amountsN
 use Rattle.year.proofs.Parts.{year-append, event-lines-append, totals-append}
 use Rattle.year.proofs.Shown.{event-lines-length}
 use Rattle.losses.specs.Cede.{cededAdded}
-use Rattle.statement.specs.declared.row.Form.the-variants as form
+use Rattle.statement.specs.declared.row.Kind.the-variants as form
 use Rattle.statement.specs.Numbers.{numbersOf}
-use Rattle.statement.specs.Forms.{widthOf}
+use Rattle.statement.specs.LineKinds.{widthOf}
 use Rattle.statement.proofs.Shown.{numbers-append, events-length}
 use Rattle.booking.specs.declared.progress.Progress.{Progress}
 use Rattle.booking.specs.Records.{yearIn}

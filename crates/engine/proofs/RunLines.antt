@@ -34,9 +34,9 @@ use Rattle.year.proofs.Shown.{event-lines-length, risk-length, cat-length}
 use Rattle.losses.specs.declared.register.Register.{Register}
 use Rattle.losses.specs.Register.{registerOf}
 use Rattle.statement.specs.declared.print.Counts.{Counts}
-use Rattle.statement.specs.declared.row.Form.the-variants as form
+use Rattle.statement.specs.declared.row.Kind.the-variants as form
 use Rattle.statement.specs.Numbers.{numbersOf}
-use Rattle.statement.specs.Forms.{widthOf, restWidth}
+use Rattle.statement.specs.LineKinds.{widthOf, restWidth}
 use Rattle.statement.specs.Shows.{Fits, Shows}
 use Rattle.statement.proofs.Shown.{numbers-length}
 use Rattle.booking.specs.declared.progress.Progress.{Progress}

@@ -21,9 +21,9 @@ use Rattle.year.specs.Statement.{cededBy, treatyLineOf, layerLineOf, statementO
 use Rattle.year.specs.Statement.{linesShown, riskTemplate, catTemplate}
 use Rattle.losses.specs.Cede.{cededAdded}
 use Rattle.losses.proofs.Added.{added-length, added-at}
-use Rattle.statement.specs.declared.row.Form.the-variants as form
+use Rattle.statement.specs.declared.row.Kind.the-variants as form
 use Rattle.statement.specs.Numbers.{numbersOf, layersNumbers, cededLine}
-use Rattle.statement.specs.Forms.{widthOf, restWidth}
+use Rattle.statement.specs.LineKinds.{widthOf, restWidth}
 use Rattle.statement.proofs.Shown.{numbers-append, layers-numbers}
 use Rattle.booking.specs.declared.progress.Progress.{Progress}
 use Rattle.booking.specs.Records.{yearIn}

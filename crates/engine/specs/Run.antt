@@ -18,9 +18,9 @@ use Rattle.year.specs.declared.Standing.{Standing}
 use Rattle.year.specs.Standing.{standingPasses}
 use Rattle.year.specs.Statement.{amountsNumbers, treatyShown, layerLineOf}
 use Rattle.year.specs.Run.{Outcome, runThrough, answerOf, bufferAfter, standingAfter}
-use Rattle.statement.specs.declared.row.Form.the-variants.{Event}
+use Rattle.statement.specs.declared.row.Kind.the-variants.{Event}
 use Rattle.statement.specs.Numbers.{numbersOf, layersNumbers, cededLine}
-use Rattle.statement.specs.Forms.{widthOf, restWidth}
+use Rattle.statement.specs.LineKinds.{widthOf, restWidth}
 use Rattle.booking.specs.declared.progress.Progress.{Progress}
 use Rattle.booking.specs.Records.{SoundRecords}
 use Rattle.engine.specs.declared.run.Ran.{Ran}

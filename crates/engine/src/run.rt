@@ -7,7 +7,7 @@ ghost use Rattle.programme.specs.Contracts.{treatiesIn};
 ghost use Rattle.text.specs.Buffer.{Put};
 ghost use Rattle.year.specs.Statement.{Statement};
 ghost use Rattle.year.specs.Run.{refused, fitted, runOf, bufferAfter};
-ghost use Rattle.statement.specs.Forms.{restWidth};
+ghost use Rattle.statement.specs.LineKinds.{restWidth};
 ghost use Rattle.statement.specs.Shows.{Fits, Shows};
 ghost use Rattle.engine.specs.Run.{ranOf, writtenRan, RanAs, runLines, restNumbers, CanKeep, CanRun, PlacesFor};
 use booking::progress::Progress;

@@ -61,8 +61,8 @@ fn read_treaty(line: &[u8], at: usize) -> Number
     number::read_short(line, at)
 }
 
-// Reads a loss form from its second number on: the maximum and a space, then the amount and the bracket. The one call
-// that reads both numbers is compiled in its place.
+// Reads a loss form from its second number on: the maximum and a space, then the amount and the bracket. One call, in
+// a loop of two turns, reads both numbers: a function that is called at one place only is compiled into it.
 fn read_amounts(line: &[u8], treaty: u64, at: usize) -> LossForm
     requires { ⌜ at ≤ length (now line) ⌝ }
     ensures { λ r. ⌜ r ≡ amountsAt (now (line .entry)) treaty at ⌝ }

@@ -1,32 +1,30 @@
 -- A layer's record through a loss: it stays sound, and where nothing more is spent it stays.
 -- Assumes nothing.
-use mathlib.Core.Path.{_≡_, refl, ap, _∙_}
+use mathlib.Core.Path.{_≡_, sym, ap, _∙_}
 use Prim.Native.Nat.{ℕ, _+_}
 use native.Mathlib.Nat.{add-zero, sub-self}
 use native.Mathlib.Omega.{arith}
 use Rattle.layer.specs.declared.record.Layer.{Layer}
 use Rattle.layer.specs.declared.record.Sums.{Sums}
-use Rattle.layer.specs.Layer.{layerOf, layerAfter, recoveredSince, chargedSince, recoveryOf, chargeOf}
-use Rattle.layer.specs.Layer.{sumsOf, borneSince, borneOf}
+use Rattle.layer.specs.Layer.{layerAfter, recoveredSince, chargedSince, sumsOf, borneSince}
 use Rattle.layer.specs.Ranges.{Sound}
 
 pub sound-after : (loss : ℕ) (y : Layer) → Sound y → Sound (layerAfter loss y)
 sound-after loss y s = record { terms = s .terms; spent = omega arith }
 
--- one loss's recovery and premium are those since the record before it
-pub borne-since : (loss : ℕ) (s : Sums) (y : Layer) → borneOf loss s y ≡ borneSince y s (layerAfter loss y)
-unfolding recoveryOf chargeOf
-borne-since loss s y = refl
-
--- where losses spend nothing more, record and sums stay
-pub still : (loss : ℕ) (s : Sums) (y : Layer) → layerAfter loss y .spent .0 ≡ y .spent .0
-    → borneSince y s (layerAfter loss y) ≡ record { layer = y; sums = s }
-still loss s y e =
-    ap (borneSince y s) (ap (layerOf (y .terms)) e)
-    ∙ (λ i. record { layer = y; sums = sumsOf (recovered i) (premium i) })
+-- where nothing more is spent since an earlier record, record and sums stay
+pub still : (before : Layer) (s : Sums) (y : Layer) → y .terms ≡ before .terms → y .spent .0 ≡ before .spent .0
+    → record { layer = before; sums = s } ≡ borneSince before s y
+still before s y t m = sym nothing ∙ ap (borneSince before s) (sym same)
   where
-    recovered : s .recovered .0 + recoveredSince y y ≡ s .recovered .0
+    same : y ≡ before
+    same i = record { terms = t i; spent = record { 0 = m i } }
+
+    recovered : s .recovered .0 + recoveredSince before before ≡ s .recovered .0
     recovered = simp (sub-self, add-zero)
 
-    premium : s .premium .0 + chargedSince y y ≡ s .premium .0
+    premium : s .premium .0 + chargedSince before before ≡ s .premium .0
     premium = simp (sub-self, add-zero)
+
+    nothing : borneSince before s before ≡ record { layer = before; sums = s }
+    nothing i = record { layer = before; sums = sumsOf (recovered i) (premium i) }

@@ -12,7 +12,7 @@ use Rattle.layer.specs.declared.record.Layer.{Layer}
 use Rattle.layer.specs.declared.record.Sums.{Sums}
 use Rattle.layer.specs.Layer.{broughtBy, capOf, cutAtCap, layerOf, layerAfter}
 use Rattle.layer.specs.Layer.{recoveredSince, chargedSince, sumsOf}
-use Rattle.layer.specs.Layer.{recoveriesOf, chargesOf, afterSubject, recoveryBy, chargeBy}
+use Rattle.layer.specs.Layer.{recoveryOf, chargeOf, recoveriesOf, chargesOf, afterSubject, recoveryBy, chargeBy}
 use Rattle.layer.specs.Layer.{borneSince, borneBy, borneThrough}
 use Rattle.layer.specs.Tier.{layersAfter, layersThrough, recoveriesThrough, chargesThrough}
 use Rattle.layer.specs.Ranges.{Sound}
@@ -42,6 +42,7 @@ pub borne-columns : (xs : List ℕ) (s : Sums) (y : Layer) → borneThrough xs s
   layer = afterEach xs y;
   sums = sumsOf (s .recovered .0 + recoveredEach xs y) (s .premium .0 + chargedEach xs y);
 }
+unfolding recoveryOf chargeOf
 borne-columns [] s y = λ i. record {
   layer = y;
   sums = sumsOf (sym (add-zero (s .recovered .0)) i) (sym (add-zero (s .premium .0)) i);

@@ -95,10 +95,7 @@ borneSince before s y = record {
 
 -- the record after a loss, and the sums with its recovery and its premium
 abbrev pub borneOf : ℕ → Sums → Layer → Borne
-borneOf loss s y = record {
-  layer = layerAfter loss y;
-  sums = sumsOf (s .recovered .0 + recoveryOf loss y) (s .premium .0 + chargeOf loss y);
-}
+borneOf loss s y = borneSince y s (layerAfter loss y)
 
 -- an amount of each of several losses, in turn
 abbrev pub inTurn : (ℕ → Layer → ℕ) → Layer → List ℕ → List ℕ

@@ -107,28 +107,34 @@ impl Layer {
         self.premium().less(before.premium())
     }
 
-    // The record after all the losses that amounts bring: they are added, as far as the cap.
+    // The record after the losses that amounts bring, each in turn. At the cap it stays.
     fn take_each(self, subjects: &[u64]) -> Layer
         requires { ⌜ Sound self ⌝ }
         ensures { λ r. ⌜ r ≡ layerAfter (sumOf (broughtBy (self .terms)) (now (subjects .entry))) self ⌝ }
     {
-        let terms = self.terms;
-        let cap = terms.cap();
-        let mut spent = self.spent;
+        let cap = self.terms.cap();
+        let mut layer = self;
         for i in 0..subjects.len() {
-            spent = spent.plus(terms.brings(subjects[i]));
-            if cap.cents() <= spent.cents() {
-                return Layer { terms, spent: cap };
+            layer = layer.take(layer.terms.brings(subjects[i]));
+            if cap.cents() <= layer.spent.cents() {
+                return layer;
             }
         }
-        Layer { terms, spent }
+        layer
     }
 
     // The record, and the sums with what it has come to recover and to charge since an earlier record of the year.
+    // Where nothing more is spent, both stay as they were.
     fn borne_since(self, before: Layer, sums: Sums) -> Borne
-        requires { ⌜ Sound self × Sound before × Room sums ⌝ }
+        requires { ⌜ Sound self × Sound before × Room sums × (self .terms ≡ before .terms) ⌝ }
         ensures { λ r. ⌜ r ≡ borneSince before sums self ⌝ }
     {
+        if self.spent.cents() == before.spent.cents() {
+            return Borne {
+                layer: before,
+                sums,
+            };
+        }
         let recovery = self.recovery_since(before);
         let premium = self.premium_since(before);
         Borne {
@@ -140,16 +146,12 @@ impl Layer {
         }
     }
 
-    // The record and the sums after the loss that a subject amount brings; where nothing more is spent, both stay as
-    // they are.
+    // The record and the sums after the loss that a subject amount brings.
     pub fn bear(self, subject: u64, sums: Sums) -> Borne
         requires { ⌜ Sound self × Room sums ⌝ }
         ensures { λ r. ⌜ r ≡ borneBy subject sums self ⌝ }
     {
         let after = self.take(self.terms.brings(subject));
-        if after.spent.cents() == self.spent.cents() {
-            return Borne { layer: self, sums };
-        }
         after.borne_since(self, sums)
     }
 
@@ -160,9 +162,6 @@ impl Layer {
         ensures { λ r. ⌜ r ≡ borneThrough (now (subjects .entry)) sums self ⌝ }
     {
         let after = self.take_each(subjects);
-        if after.spent.cents() == self.spent.cents() {
-            return Borne { layer: self, sums };
-        }
         after.borne_since(self, sums)
     }
 }

@@ -29,7 +29,7 @@ pub record CanPass (text : List ℕ) (register : Register) (start : Progress) (c
   pub cessions : cs ≡ replicate 9 0
 
 -- What a pass comes to, by what reading the text comes to: the refusal, its line and the progress that the pass began
--- with, or the events booked; a line of the text has ten bytes or more.
+-- with, or the events booked; ten bytes or more of the text for each event.
 abbrev pub passIs : List Treaty → Progress → (text d d′ cs cs′ : List ℕ) → Passed → EventsRead → Type 0
 passIs ts start text d d′ cs cs′ r (turnedDown n w) =
     (r ≡ record { refusal = n; line = w; progress = start }) × (n ≡ 0 → ⊥)

@@ -18,20 +18,20 @@ use Rattle.layer.specs.Layer.{deductibleLeftOf, coverLeftOf, recoveredOf, premi
 use Rattle.text.specs.Buffer.{Put}
 use Rattle.text.proofs.Passes.{Passing, passed-short, one-passed, all-passed}
 use Rattle.year.specs.Statement.{layerLineOf, layerNumbers, treatyShown}
-use Rattle.statement.specs.declared.row.Form.the-variants as form
+use Rattle.statement.specs.declared.row.Kind.the-variants as kind
 use Rattle.statement.specs.Numbers.{numbersOf, layersNumbers, cededLine}
-use Rattle.statement.specs.Forms.{widthOf}
+use Rattle.statement.specs.LineKinds.{widthOf}
 
 -- The pass over the first n of the treaties ts, as `Passing` says, where place T of cs holds what treaty T cedes.
 abbrev pub TreatiesKept : (cs : List ℕ) (ts : List Treaty) (n : ℕ) (d : List ℕ) (at : ℕ) (d′ : List ℕ) (next i : ℕ)
     → Type 0
 TreatiesKept cs ts n d at d′ next i =
     Passing (λ (i : ℕ). numbersOf (map treatyShown (map (cededLine cs) (slice i n ts))))
-    (widthOf form.Treaty) ts n d at d′ next i
+    (widthOf kind.Treaty) ts n d at d′ next i
 
 module _ (cs : List ℕ) (ts : List Treaty) (n : ℕ) (d : List ℕ) (at : ℕ) (d′ : List ℕ) (next i : ℕ)
     (g : TreatiesKept cs ts n d at d′ next i) where
-  pub treaties-short : n ≤ 8 → next ≤ at + 8 * widthOf form.Treaty
+  pub treaties-short : n ≤ 8 → next ≤ at + 8 * widthOf kind.Treaty
   treaties-short k = omega (arith, passed-short _ _ _ _ _ _ _ _ _ g)
 
   -- one treaty more
@@ -53,11 +53,11 @@ module _ (cs : List ℕ) (ts : List Treaty) (n : ℕ) (d : List ℕ) (at : ℕ) 
 -- The pass over the first n of the layers ls.
 abbrev pub LayersKept : (ls : List Layer) (n : ℕ) (d : List ℕ) (at : ℕ) (d′ : List ℕ) (next i : ℕ) → Type 0
 LayersKept ls n d at d′ next i =
-    Passing (λ (i : ℕ). layersNumbers (i + 1) (map layerLineOf (slice i n ls))) (widthOf form.Risk) ls n d at d′ next i
+    Passing (λ (i : ℕ). layersNumbers (i + 1) (map layerLineOf (slice i n ls))) (widthOf kind.Risk) ls n d at d′ next i
 
 module _ (ls : List Layer) (n : ℕ) (d : List ℕ) (at : ℕ) (d′ : List ℕ) (next i : ℕ)
     (g : LayersKept ls n d at d′ next i) where
-  pub layers-short : n ≤ 8 → next ≤ at + 8 * widthOf form.Risk
+  pub layers-short : n ≤ 8 → next ≤ at + 8 * widthOf kind.Risk
   layers-short k = omega (arith, passed-short _ _ _ _ _ _ _ _ _ g)
 
   -- one layer more

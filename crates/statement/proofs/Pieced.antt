@@ -14,8 +14,8 @@ use Rattle.text.specs.Template.{capital, holes, filled}
 use Rattle.text.proofs.Puts.{put-whole, put-append}
 use Rattle.text.proofs.Pieces.{none-pieced, field-put, piece-put, rest-pieced, last-put}
 use Rattle.year.specs.Statement.{eventTemplate, treatyTemplate, riskTemplate, catTemplate, totalTemplate}
-use Rattle.statement.specs.Forms.{templateOf, widthOf, amountsTail, lastTail, figuresTail}
-use Rattle.statement.specs.declared.row.Form.{Form}
+use Rattle.statement.specs.LineKinds.{templateOf, widthOf, amountsTail, lastTail, figuresTail}
+use Rattle.statement.specs.declared.row.Kind.{Kind}
 
 -- a piece, and a number
 pub both-put : {d d₁ d₂ : List ℕ} {at a₁ end : ℕ} (p : List ℕ) (n : ℕ) → Put d at p d₁ a₁ → Put d₁ a₁ (digits n) d₂ end
@@ -111,7 +111,7 @@ figures-put ns {d} {at = at} p₁ p₂ p₃ p₄ p₅ =
     last-put (bytes "))") g₄ refl p₅
 
 -- a line of a kind that is known
-module _ {f k : Form} (e : f ≡ k) where
+module _ {f k : Kind} (e : f ≡ k) where
   pub known-width : {n : ℕ} → widthOf f ≤ n → widthOf k ≤ n
   known-width h = rw e at h
 

@@ -21,10 +21,10 @@ use Rattle.year.specs.Statement.{Line, EventLine, TreatyLine, LayerLine, Statem
 use Rattle.year.specs.Statement.{layersShown, amountsNumbers, totalShown, statementText}
 use Rattle.year.specs.Statement.{eventTemplate, treatyTemplate, riskTemplate, catTemplate, totalTemplate}
 use Rattle.statement.specs.declared.print.Counts.{Counts}
-use Rattle.statement.specs.declared.row.Form.{Form}
-use Rattle.statement.specs.declared.row.Form.the-variants.{Event, Treaty, Risk, Cat, Total}
+use Rattle.statement.specs.declared.row.Kind.{Kind}
+use Rattle.statement.specs.declared.row.Kind.the-variants.{Event, Treaty, Risk, Cat, Total}
 use Rattle.statement.specs.Numbers.{numbersOf, layersNumbers, rowsText}
-use Rattle.statement.specs.Forms.{templateOf, widthOf}
+use Rattle.statement.specs.LineKinds.{templateOf, widthOf}
 use Rattle.statement.specs.Shows.{linesIn, numbersIn, leastBytes, Fits, Shows}
 use Rattle.statement.proofs.Rows.{no-rows, more-rows}
 
@@ -81,10 +81,10 @@ alike-size t w f h e (l ∷ ls) a =
     )
 
 -- how many bytes of a kind's line stand for themselves, with the line feed
-abbrev plainOf : Form → ℕ
+abbrev plainOf : Kind → ℕ
 plainOf f = length (templateOf f) + 1 - widthOf f
 
-as-wide : (f : Form) → holes (templateOf f) ≡ widthOf f
+as-wide : (f : Kind) → holes (templateOf f) ≡ widthOf f
 unfolding holes capital
 as-wide Event = refl
 as-wide Treaty = refl
@@ -92,7 +92,7 @@ as-wide Risk = refl
 as-wide Cat = refl
 as-wide Total = refl
 
-as-long : (f : Form) → length (templateOf f) + 1 ≡ widthOf f + plainOf f
+as-long : (f : Kind) → length (templateOf f) + 1 ≡ widthOf f + plainOf f
 as-long Event = refl
 as-long Treaty = refl
 as-long Risk = refl
@@ -100,11 +100,11 @@ as-long Cat = refl
 as-long Total = refl
 
 -- n lines of a kind
-record Kind (f : Form) (ls : List Line) (n : ℕ) : Type 0 where
+record OfKind (f : Kind) (ls : List Line) (n : ℕ) : Type 0 where
   alike : Alike (templateOf f) (widthOf f) ls
   many : n ≡ length ls
 
-module _ {f : Form} {ls : List Line} {n : ℕ} (q : Kind f ls n) where
+module _ {f : Kind} {ls : List Line} {n : ℕ} (q : OfKind f ls n) where
   kind-length : length (numbersOf ls) ≡ n * widthOf f
   kind-length = alike-length (templateOf f) (widthOf f) ls (q .alike) ∙ rw (q .many)
 
@@ -137,7 +137,7 @@ digits-both ls ms =
     rw (numbers-append ls ms) (sum-append (λ (n : ℕ). length (digits n)) (numbersOf ls) (numbersOf ms))
 
 -- where the rows of each kind begin, and the text of those from a place of the numbers ns on
-module _ (count : Form → ℕ) where
+module _ (count : Kind → ℕ) where
   abbrev treatiesAt : ℕ
   treatiesAt = widthOf Event * count Event
 
@@ -150,11 +150,11 @@ module _ (count : Form → ℕ) where
   abbrev totalAt : ℕ
   totalAt = catAt + widthOf Cat * count Cat
 
-  abbrev rowsAt : (ns : List ℕ) → Form → ℕ → List ℕ
+  abbrev rowsAt : (ns : List ℕ) → Kind → ℕ → List ℕ
   rowsAt ns f k = rowsText (templateOf f) (widthOf f) (count f) (drop k ns)
 
 -- lines of each kind
-module _ (shown : Form → List Line) (count : Form → ℕ) (kind : (f : Form) → Kind f (shown f) (count f)) where
+module _ (shown : Kind → List Line) (count : Kind → ℕ) (kind : (f : Kind) → OfKind f (shown f) (count f)) where
   -- in order: those from a kind on
   abbrev fromCat : List Line
   fromCat = shown Cat ++ shown Total
@@ -240,7 +240,7 @@ module _ (shown : Form → List Line) (count : Form → ℕ) (kind : (f : Form) 
       (kind-put (kind Total) ns (totalAt count) [] (rw append-nil h₅) p₅)))))
 
 -- the lines of a kind of a statement
-abbrev shownBy : Statement → Form → List Line
+abbrev shownBy : Statement → Kind → List Line
 shownBy t Event = map eventShown (t .events)
 shownBy t Treaty = map treatyShown (t .treaties)
 shownBy t Risk = layersShown riskTemplate 1 (t .layers .risk)
@@ -248,7 +248,7 @@ shownBy t Cat = layersShown catTemplate 1 (t .layers .cat)
 shownBy t Total = totalShown (t .total) ∷ []
 
 -- and how many these are
-abbrev countOf : Counts → Form → ℕ
+abbrev countOf : Counts → Kind → ℕ
 countOf c Event = c .events
 countOf c Treaty = c .treaties
 countOf c Risk = c .risk
@@ -278,7 +278,7 @@ many-layers t i [] = refl
 many-layers t i (l ∷ ls) = ap suc (many-layers t (i + 1) ls)
 
 module _ (ns : List ℕ) (c : Counts) where
-  kinds : (t : Statement) → Shows t ns c → (f : Form) → Kind f (shownBy t f) (countOf c f)
+  kinds : (t : Statement) → Shows t ns c → (f : Kind) → OfKind f (shownBy t f) (countOf c f)
   kinds t h Event = record { alike = each-event (t .events); many = h .events ∙ rw length-map }
   kinds t h Treaty = record { alike = each-treaty (t .treaties); many = h .treaties ∙ rw length-map }
   kinds t h Risk = record {

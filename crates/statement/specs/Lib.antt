@@ -1,3 +1,3 @@
 pub mod Numbers
-pub mod Forms
+pub mod LineKinds
 pub mod Shows

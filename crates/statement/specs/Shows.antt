@@ -6,9 +6,9 @@ use Prim.Native.Nat.{ℕ, _+_, _*_, _^_, _≤_, _<_}
 use lib.ListN.{length}
 use Rattle.year.specs.Statement.{Statement, totalTemplate, linesShown}
 use Rattle.statement.specs.declared.print.Counts.{Counts}
-use Rattle.statement.specs.declared.row.Form.the-variants.{Event, Treaty, Risk, Cat, Total}
+use Rattle.statement.specs.declared.row.Kind.the-variants.{Event, Treaty, Risk, Cat, Total}
 use Rattle.statement.specs.Numbers.{numbersOf}
-use Rattle.statement.specs.Forms.{widthOf}
+use Rattle.statement.specs.LineKinds.{widthOf}
 
 -- how many lines these are, with that of the totals
 abbrev pub linesIn : Counts → ℕ

@@ -8,12 +8,12 @@ ghost use Rattle.text.specs.Number.{digits};
 ghost use Rattle.text.specs.Template.{filled};
 ghost use Rattle.year.specs.Statement.{eventTemplate, treatyTemplate, riskTemplate, catTemplate, totalTemplate};
 ghost use Rattle.year.specs.Statement.{Statement, statementText};
-ghost use Rattle.statement.specs.declared.row.Form.the-variants.{Event, Treaty, Risk, Cat, Total};
+ghost use Rattle.statement.specs.declared.row.Kind.the-variants.{Event, Treaty, Risk, Cat, Total};
 ghost use Rattle.statement.specs.Numbers.{rowsText};
-ghost use Rattle.statement.specs.Forms.{templateOf, widthOf, amountsTail, lastTail, figuresTail};
+ghost use Rattle.statement.specs.LineKinds.{templateOf, widthOf, amountsTail, lastTail, figuresTail};
 ghost use Rattle.statement.specs.Shows.{linesIn, Fits, Shows};
 use crate::row;
-use crate::row::Form;
+use crate::row::Kind;
 use text::buffer;
 use text::number;
 
@@ -129,64 +129,64 @@ fn put_total(out: &mut [u8], at: usize, row: &[u64]) -> usize
 }
 
 // A line of any kind, with its line feed, where there is room for one. It has at most 200 bytes.
-fn put_within(out: &mut [u8], at: usize, form: Form, row: &[u64]) -> usize
-    requires { ⌜ (at + 200 ≤ length (now out)) × (widthOf form ≤ length (now row)) ⌝ }
-    ensures { λ r. ⌜ Put (now (out .entry)) at (filled (templateOf form) (now (row .entry)) (10 ∷ []))
+fn put_within(out: &mut [u8], at: usize, kind: Kind, row: &[u64]) -> usize
+    requires { ⌜ (at + 200 ≤ length (now out)) × (widthOf kind ≤ length (now row)) ⌝ }
+    ensures { λ r. ⌜ Put (now (out .entry)) at (filled (templateOf kind) (now (row .entry)) (10 ∷ []))
         (now (out .exit)) r × (r ≤ at + 200) ⌝ }
 {
-    match form {
-        Form::Event => put_event(out, at, row),
-        Form::Treaty => put_treaty(out, at, row),
-        Form::Risk => put_risk(out, at, row),
-        Form::Cat => put_cat(out, at, row),
-        Form::Total => put_total(out, at, row),
+    match kind {
+        Kind::Event => put_event(out, at, row),
+        Kind::Treaty => put_treaty(out, at, row),
+        Kind::Risk => put_risk(out, at, row),
+        Kind::Cat => put_cat(out, at, row),
+        Kind::Total => put_total(out, at, row),
     }
 }
 
 // The same as far as there is room.
-fn put_cut(out: &mut [u8], at: usize, form: Form, row: &[u64]) -> usize
-    requires { ⌜ (at < 2 ^ 41) × (widthOf form ≤ length (now row)) ⌝ }
-    ensures { λ r. ⌜ Put (now (out .entry)) at (filled (templateOf form) (now (row .entry)) (10 ∷ []))
+fn put_cut(out: &mut [u8], at: usize, kind: Kind, row: &[u64]) -> usize
+    requires { ⌜ (at < 2 ^ 41) × (widthOf kind ≤ length (now row)) ⌝ }
+    ensures { λ r. ⌜ Put (now (out .entry)) at (filled (templateOf kind) (now (row .entry)) (10 ∷ []))
         (now (out .exit)) r × (r ≤ at + 200) ⌝ }
 {
     let mut line = [0u8; 200];
-    let end = put_within(&mut line, 0, form, row);
+    let end = put_within(&mut line, 0, kind, row);
     buffer::put_bytes(out, at, &line[..end])
 }
 
 // A line with its line feed.
-fn put_line(out: &mut [u8], at: usize, form: Form, row: &[u64]) -> usize
-    requires { ⌜ (at < 2 ^ 41) × (widthOf form ≤ length (now row)) ⌝ }
-    ensures { λ r. ⌜ Put (now (out .entry)) at (filled (templateOf form) (now (row .entry)) (10 ∷ []))
+fn put_line(out: &mut [u8], at: usize, kind: Kind, row: &[u64]) -> usize
+    requires { ⌜ (at < 2 ^ 41) × (widthOf kind ≤ length (now row)) ⌝ }
+    ensures { λ r. ⌜ Put (now (out .entry)) at (filled (templateOf kind) (now (row .entry)) (10 ∷ []))
         (now (out .exit)) r × (r ≤ at + 200) ⌝ }
 {
     if at + 200 <= out.len() {
-        return put_within(out, at, form, row);
+        return put_within(out, at, kind, row);
     }
-    put_cut(out, at, form, row)
+    put_cut(out, at, kind, row)
 }
 
 // A line for each of `count` rows of the numbers from a place on.
 fn put_lines(
     out: &mut [u8],
     at: usize,
-    form: Form,
+    kind: Kind,
     count: usize,
     numbers: &[u64],
     from: usize,
 ) -> usize
-    requires { ⌜ (at < 2 ^ 40) × (count < 2 ^ 16) × (from + count * widthOf form ≤ length (now numbers)) ⌝ }
+    requires { ⌜ (at < 2 ^ 40) × (count < 2 ^ 16) × (from + count * widthOf kind ≤ length (now numbers)) ⌝ }
     ensures { λ r. ⌜ Put (now (out .entry)) at
-        (rowsText (templateOf form) (widthOf form) count (drop from (now (numbers .entry)))) (now (out .exit)) r
+        (rowsText (templateOf kind) (widthOf kind) count (drop from (now (numbers .entry)))) (now (out .exit)) r
         × (r ≤ at + 200 * count) ⌝ }
 {
-    let wide = row::width(form);
+    let wide = row::width(kind);
     let mut next = at;
     let mut begin = from;
     let mut i: usize = 0;
     while i < count {
         let end = begin + wide;
-        next = put_line(out, next, form, &numbers[begin..end]);
+        next = put_line(out, next, kind, &numbers[begin..end]);
         begin = end;
         i += 1;
     }
@@ -203,11 +203,11 @@ pub fn put_statement(out: &mut [u8], numbers: &[u64], counts: Counts) -> usize
     let risk = treaties + row::TREATY * counts.treaties;
     let cat = risk + row::LAYER * counts.risk;
     let total = cat + row::LAYER * counts.cat;
-    let first = put_lines(out, 0, Form::Event, counts.events, numbers, 0);
-    let second = put_lines(out, first, Form::Treaty, counts.treaties, numbers, treaties);
-    let third = put_lines(out, second, Form::Risk, counts.risk, numbers, risk);
-    let fourth = put_lines(out, third, Form::Cat, counts.cat, numbers, cat);
-    put_lines(out, fourth, Form::Total, 1, numbers, total)
+    let first = put_lines(out, 0, Kind::Event, counts.events, numbers, 0);
+    let second = put_lines(out, first, Kind::Treaty, counts.treaties, numbers, treaties);
+    let third = put_lines(out, second, Kind::Risk, counts.risk, numbers, risk);
+    let fourth = put_lines(out, third, Kind::Cat, counts.cat, numbers, cat);
+    put_lines(out, fourth, Kind::Total, 1, numbers, total)
 }
 
 // How many bytes it has: those that stand for themselves in each kind of line, with its line feed, and the digits.

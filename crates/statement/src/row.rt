@@ -1,9 +1,9 @@
 // The kinds of a statement's lines, and how many numbers a line of each kind has. The numbers of a line, one after
 // another, are its row.
 ghost use mathlib.Core.Path.{_≡_};
-ghost use Rattle.statement.specs.Forms.{widthOf};
+ghost use Rattle.statement.specs.LineKinds.{widthOf};
 
-pub enum Form {
+pub enum Kind {
     Event,
     Treaty,
     Risk,
@@ -23,14 +23,14 @@ pub const TOTAL: usize = 6;
 pub const REST: usize = 8 * TREATY + 16 * LAYER + TOTAL;
 
 // How many numbers a line has.
-pub fn width(form: Form) -> usize
-    ensures { λ r. ⌜ r ≡ widthOf form ⌝ }
+pub fn width(kind: Kind) -> usize
+    ensures { λ r. ⌜ r ≡ widthOf kind ⌝ }
 {
-    match form {
-        Form::Event => EVENT,
-        Form::Treaty => TREATY,
-        Form::Risk => LAYER,
-        Form::Cat => LAYER,
-        Form::Total => TOTAL,
+    match kind {
+        Kind::Event => EVENT,
+        Kind::Treaty => TREATY,
+        Kind::Risk => LAYER,
+        Kind::Cat => LAYER,
+        Kind::Total => TOTAL,
     }
 }

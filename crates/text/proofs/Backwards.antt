@@ -8,7 +8,7 @@ use native.Mathlib.Omega.{arith}
 use lib.ListN.{length, set, length-set, length-append}
 use lib.Seq.{sets, set-comm}
 use Rattle.text.specs.Buffer.{Put}
-use Rattle.text.specs.Number.{digits, twoDigits}
+use Rattle.text.specs.Number.{digits}
 use Rattle.text.proofs.Printing.{printed-one, printed-more, printed-append}
 use Rattle.text.proofs.Puts.{sets-append}
 
@@ -25,6 +25,10 @@ sets-before d at v w = behind d (at + length v) w (omega arith) ∙ sym (sets-ap
     behind : (d : List ℕ) (i : ℕ) (w : List ℕ) → at + length v ≤ i → sets (sets d i w) at v ≡ sets (sets d at v) i w
     behind d i [] h = refl
     behind d i (b ∷ w) h = behind (set d i b) (suc i) w (omega arith) ∙ rw (set-before d i at b v h)
+
+-- the two digits of a number below 100, a leading zero among them
+abbrev twoDigits : ℕ → List ℕ
+twoDigits n = (48 + n / 10) ∷ (48 + n % 10) ∷ []
 
 -- the digits of a number by its last one, and by its last two
 digits-ten : (n : ℕ) → 10 ≤ n → digits n ≡ digits (n / 10) ++ ((48 + n % 10) ∷ [])

@@ -1,4 +1,4 @@
--- A form that is read by its fixed bytes and its numbers, without a template in hand.
+-- A form that is read by its fixed bytes and its numbers, not byte by byte along a template.
 -- Assumes nothing.
 use mathlib.Core.Bool.{Bool, true, false}
 use mathlib.Core.List.{List, [], _∷_, _++_}

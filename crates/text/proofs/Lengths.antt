@@ -1,4 +1,4 @@
--- How long a printed number and a printed template are at least and at most.
+-- How long a printed number and a printed template are: at least, at most, and exactly, by counting digits.
 -- Assumes nothing.
 use mathlib.Core.Path.{_≡_, refl, ap, _∙_}
 use mathlib.Core.List.{List, [], _∷_}

@@ -1,4 +1,4 @@
--- Laws of the digits among eight bytes of a text: '0' taken from each byte, and the marks of those that are no digits.
+-- Laws of the digits among eight bytes of a text: the bytes lowered, and the marks of those that are no digits.
 -- Assumes nothing.
 use mathlib.Core.Bool.{Bool, true, false}
 use mathlib.Core.List.{List}
@@ -31,7 +31,7 @@ at-below (suc n) p e k l = go (p n) refl (λ d. at-below n p d k)
         let z : false ≡ true = simp (all-below, q) at e in
         let n : _≡_ {A = ℕ} 0 1 = cc in absurd (omega arith)
 
--- '0' taken from a byte
+-- a byte lowered
 abbrev zeros : ℕ
 zeros = 3472328296227680304
 

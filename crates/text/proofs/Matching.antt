@@ -32,7 +32,7 @@ rest-at s j w y h e = sym (ap (λ (k : ℕ). drop k s) place ∙ sym (drop-drop 
     place : length s - length y ≡ j + length w
     place = omega (arith, length-drop j s, ap length e, length-append w y)
 
--- the answer of `number::read`, taken apart
+-- the answer of `number::read` and `number::read_short`, taken apart
 pub number-found : (s : List ℕ) (j v next : ℕ) → j ≤ length s → Value v next ≡ numberAt s j
     → (number (drop j s) ≡ some (v, drop next s)) × (next ≤ length s)
 unfolding numberAt

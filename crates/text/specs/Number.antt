@@ -27,10 +27,6 @@ digits n = printed n []
 abbrev pub digitsIn : List ℕ → ℕ
 digitsIn ns = sumOf (λ (n : ℕ). length (digits n)) ns
 
--- the two digits of a number below 100, a leading zero among them
-abbrev pub twoDigits : ℕ → List ℕ
-twoDigits n = (48 + n / 10) ∷ (48 + n % 10) ∷ []
-
 -- the value of a digit's byte, 10 for any other byte
 unfoldable pub digitOf : ℕ → ℕ
 digitOf b = elim (leb 48 b && leb b 57) [ true ↦ b - 48 | false ↦ 10 ]

@@ -47,7 +47,7 @@ pub record Leading (t r : ℕ) : Type 0 where
   pub figures : Figures t r
   pub end : r < 8 → 10 ≤ byteOf t r
 
--- r has the eight bytes of the text s from the place at on, '0' taken from each, and how many digits they begin with
+-- r has eight bytes for those of the text s from the place at on, lowered, and how many digits these begin with
 pub record DigitsAt (s : List ℕ) (at : ℕ) (r : Digits) : Type 0 where
   pub room : at + 8 ≤ length s
   pub bytes : Lowered s at (r .word)

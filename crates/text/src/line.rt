@@ -1,11 +1,12 @@
 // Lines, each ended by a line feed, and where a byte stands.
 ghost use mathlib.Core.Path.{_≡_};
-ghost use Prim.Native.Nat.{_+_, _≤_};
+ghost use Prim.Native.Nat.{_≤_};
 ghost use lib.ListN.{length};
 ghost use Rattle.text.specs.Begin.{Stands};
 ghost use Rattle.text.specs.Lines.{placeOf, lineEnd};
 
-// Where a byte stands next, from a place on, or the end of the text.
+// Where a byte stands next, from a place on, or the end of the text. The bytes left are counted down, so that a turn
+// tests one number against 0.
 pub fn place_of(s: &[u8], at: usize, byte: u8) -> usize
     requires { ⌜ at ≤ length (now s) ⌝ }
     ensures { λ r. ⌜ (r ≡ placeOf byte (now (s .entry)) at) × (at ≤ r) × (r ≤ length (now (s .entry))) ⌝ }

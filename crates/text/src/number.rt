@@ -98,7 +98,7 @@ fn read_more(s: &[u8], value: u64, at: usize) -> Number
     Number::Value(value * ten_to(digits.count) + more, at + digits.count)
 }
 
-// The same, eight bytes at a time.
+// The number of 1 to 16 digits at a place of a text, eight bytes at a time.
 pub fn read(s: &[u8], at: usize) -> Number
     ensures { λ r. ⌜ r ≡ numberAt (now (s .entry)) at ⌝ }
 {

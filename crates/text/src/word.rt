@@ -4,12 +4,13 @@ ghost use Prim.Native.Nat.{_+_, _^_, _≤_, _<_};
 ghost use lib.ListN.{length};
 ghost use Rattle.text.specs.Word.{byteOf, figures, BytesAt, Lowered, Marked, Leading, Figures, DigitsAt};
 
-// Eight bytes of a text with '0' taken from each, and how many digits they begin with.
+// Eight bytes of a text, lowered, and how many digits they begin with.
 pub struct Digits {
     pub word: u64,
     pub count: usize,
 }
 
+// A byte as a word.
 fn wide(byte: u8) -> u64
     ensures { λ r. ⌜ (r ≡ byte) × (r ≤ 255) ⌝ }
 {
@@ -24,6 +25,7 @@ fn two(s: &[u8], place: usize) -> u64
     wide(s[place]) + wide(s[place + 1]) * 256
 }
 
+// Four bytes of a text.
 fn four(s: &[u8], place: usize) -> u64
     requires { ⌜ place + 4 ≤ length (now s) ⌝ }
     ensures { λ r. ⌜ BytesAt (now (s .entry)) place 4 r ⌝ }
@@ -47,7 +49,8 @@ pub fn seven(s: &[u8], place: usize) -> u64
     at(s, place) % 72057594037927936
 }
 
-// Eight bytes with '0' taken from each byte: a digit's byte is then its value, and any other byte is 10 or more.
+// Eight bytes, lowered: the bits of '0' are turned in each, so that a digit's byte is its value and any other byte is
+// 10 or more.
 fn lowered(s: &[u8], place: usize) -> u64
     requires { ⌜ place + 8 ≤ length (now s) ⌝ }
     ensures { λ r. ⌜ Lowered (now (s .entry)) place r ⌝ }

@@ -2,17 +2,17 @@
 -- Assumes nothing.
 use Prim.Native.Nat.{_-_}
 use borrow.Author.Needs.{needs}
-use Rattle.statement.specs.Forms.{templateOf}
+use Rattle.statement.specs.LineKinds.{templateOf}
 use Rattle.statement.proofs.Rows as law
 use Rattle.statement.proofs.print.put_lines.Statement.{statement}
 use Rattle.statement.proofs.print.put_lines.Tie as tie
 
 abbrev Inv-loop : tie.InvT-loop
-Inv-loop out₀ at form count numbers from wide next₀ begin₀ i₀ out next begin i =
-    law.Lined (templateOf form) wide count numbers from out₀ at out next begin i
+Inv-loop out₀ at kind count numbers from wide next₀ begin₀ i₀ out next begin i =
+    law.Lined (templateOf kind) wide count numbers from out₀ at out next begin i
 
 abbrev μ-loop : tie.MeasureT-loop
-μ-loop out₀ at form count numbers from wide next₀ begin₀ i₀ out next begin i = count - i
+μ-loop out₀ at kind count numbers from wide next₀ begin₀ i₀ out next begin i = count - i
 
 width-requires : tie.Need-width-requires Inv-loop μ-loop
 width-requires c κs = search needs

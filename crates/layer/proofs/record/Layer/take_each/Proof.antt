@@ -1,24 +1,33 @@
 -- `layer::record::Layer::take_each` meets its contract.
 -- Assumes nothing.
-use Prim.Native.Nat.{_-_}
-use lib.ListN.{length}
+use Prim.Native.Nat.{_+_, _-_}
 use native.Mathlib.Omega.{arith}
 use borrow.Author.Needs.{needs}
-use Rattle.layer.proofs.LayerPass.{Spending, none-spent, next-fits, one-spent, all-at-cap, all-spent}
+use lib.ListN.{length}
+use Rattle.layer.proofs.LayerPass as law
 use Rattle.layer.proofs.record.Layer.take_each.Statement.{statement}
 use Rattle.layer.proofs.record.Layer.take_each.Tie as tie
 
 abbrev Inv-loop : tie.InvT-loop
-Inv-loop subjects terms cap spent₀ i₀ i-end spent i = Spending subjects terms spent₀ i spent
+Inv-loop subjects cap layer₀ i₀ i-end layer i = law.Taking subjects layer₀ i layer
 
 abbrev μ-loop : tie.MeasureT-loop
-μ-loop subjects terms cap spent₀ i₀ i-end spent i = length subjects - i
+μ-loop subjects cap layer₀ i₀ i-end layer i = length subjects - i
+
+-- the record has taken one loss more
+taken : (c : tie.After-take Inv-loop μ-loop)
+    → let loop = c .before .before .before .before in
+    let s = loop .before .before .before .args in
+    law.Taking (s .subjects .now) (s .self) (loop .loop .i + 1) (c .take .result)
+taken c =
+    let loop = c .before .before .before .before in
+    law.one-taken _ _ _ _ (loop .loop .inv) 0 (omega arith) _ (c .before .brings .ensures) _ (c .take .ensures)
 
 cap-requires : tie.Need-cap-requires Inv-loop μ-loop
 cap-requires c κs = search needs
 
 loop-holds : tie.Need-loop-holds Inv-loop μ-loop
-loop-holds c = search none-spent
+loop-holds c = search law.none-taken
 
 mul-brings : tie.Need-mul-brings Inv-loop μ-loop
 mul-brings c = search needs
@@ -29,8 +38,8 @@ shared-slice-read-brings c = search needs
 brings-requires : tie.Need-brings-requires Inv-loop μ-loop
 brings-requires c κs = search needs
 
-plus-requires : tie.Need-plus-requires Inv-loop μ-loop
-plus-requires c κs = search next-fits
+take-requires : tie.Need-take-requires Inv-loop μ-loop
+take-requires c κs = search needs
 
 cents-requires : tie.Need-cents-requires Inv-loop μ-loop
 cents-requires c κs = search needs
@@ -40,10 +49,8 @@ cents-requires-2 c κs = search needs
 
 returns : tie.Need-returns Inv-loop μ-loop
 returns c =
-    let m = c .before .before .before in
-    let loop = m .before .before .before .before in
-    all-at-cap _ _ _ _ _ (loop .loop .inv) _ (omega arith) _ (m .before .brings .ensures) _ (m .plus .ensures) _
-    (loop .before .before .cap .ensures) (omega arith)
+    let loop = c .before .before .before .before .before .before .before in
+    law.all-at-cap _ _ _ _ (taken (c .before .before .before)) _ (loop .before .cap .ensures) (omega arith)
 
 add-i : tie.Need-add-i Inv-loop μ-loop
 add-i c = search needs
@@ -52,14 +59,10 @@ loop-less : tie.Need-loop-less Inv-loop μ-loop
 loop-less c = search needs
 
 loop-again : tie.Need-loop-again Inv-loop μ-loop
-loop-again c =
-    let m = c .before .before .before in
-    let loop = m .before .before .before .before in
-    one-spent _ _ _ _ _ (loop .loop .inv) _ (omega arith) _ (m .before .brings .ensures) _ (m .plus .ensures)
-    (omega (arith, loop .before .before .cap .ensures))
+loop-again c = taken (c .before .before .before)
 
 returns-2 : tie.Need-returns-2 Inv-loop μ-loop
-returns-2 c = all-spent _ _ _ _ _ (c .before .loop .inv) (omega arith)
+returns-2 c = search law.all-taken
 
 pub take-each-spec : {M : Type 1} → statement M
 take-each-spec =
@@ -72,7 +75,7 @@ take-each-spec =
     mul-brings
     shared-slice-read-brings
     brings-requires
-    plus-requires
+    take-requires
     cents-requires
     cents-requires-2
     returns

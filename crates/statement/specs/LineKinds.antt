@@ -4,11 +4,11 @@ use mathlib.Core.List.{List}
 use Prim.Native.Nat.{ℕ, _+_, _*_}
 use Rattle.text.specs.Bytes.{bytes}
 use Rattle.year.specs.Statement.{eventTemplate, treatyTemplate, riskTemplate, catTemplate, totalTemplate}
-use Rattle.statement.specs.declared.row.Form.{Form}
-use Rattle.statement.specs.declared.row.Form.the-variants.{Event, Treaty, Risk, Cat, Total}
+use Rattle.statement.specs.declared.row.Kind.{Kind}
+use Rattle.statement.specs.declared.row.Kind.the-variants.{Event, Treaty, Risk, Cat, Total}
 
 -- the template of a kind
-abbrev pub templateOf : Form → List ℕ
+abbrev pub templateOf : Kind → List ℕ
 templateOf Event = eventTemplate
 templateOf Treaty = treatyTemplate
 templateOf Risk = riskTemplate
@@ -16,7 +16,7 @@ templateOf Cat = catTemplate
 templateOf Total = totalTemplate
 
 -- how many numbers it has
-abbrev pub widthOf : Form → ℕ
+abbrev pub widthOf : Kind → ℕ
 widthOf Event = 7
 widthOf Treaty = 2
 widthOf Risk = 5
