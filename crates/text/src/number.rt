@@ -153,7 +153,7 @@ fn size_short(n: u64) -> usize
     8
 }
 
-// How many digits a number has: eight by eight. Most numbers of a statement are 0, and are told first.
+// How many digits a number has: eight by eight. A number of one digit is told first.
 pub fn size(n: u64) -> usize
     ensures { λ r. ⌜ (r ≡ length (digits n)) × (r ≤ 20) ⌝ }
 {
