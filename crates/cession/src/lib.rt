@@ -1,16 +1,14 @@
 // The public calls, with C's calling convention: reading and writing a table, opening a year, running events. Each
-// answers every input. Each stands on the call below; a run is lent its standing, and `run_from` is for callers in
-// Rattle that lend none.
+// answers every input. Each stands on the call below; a run is lent its standing.
 ghost use mathlib.Core.Path.{_≡_};
 ghost use lib.ListN.{length};
+ghost use Rattle.answer.specs.Outcome.{answerOf, bufferAfter};
 ghost use Rattle.table_text.specs.Read.{readOf};
-ghost use Rattle.table_text.specs.Write.{writeOf, answerOf as tableAnswer, bufferAfter as tableAfter};
+ghost use Rattle.table_text.specs.Write.{writeOf};
 ghost use Rattle.year.specs.Standing.{openOf};
-ghost use Rattle.year.specs.Run.{runOf, answerOf, standingAfter, bufferAfter};
-ghost use Rattle.engine.specs.Run.{ranOf};
+ghost use Rattle.year.specs.Run.{runOf, standingAfter};
+use answer::Answer;
 use engine::run;
-use engine::run::Ran;
-use programme::Answer;
 use programme::contract::Programme;
 use table_text::Reading;
 use year::Opening;
@@ -27,9 +25,9 @@ pub extern "C" fn cession_read(text: &[u8]) -> Reading
 // Writes a programme's table text into a buffer.
 #[no_mangle]
 pub extern "C" fn cession_write(programme: Programme, buffer: &mut [u8]) -> Answer
-    ensures { λ r. ⌜ (r ≡ tableAnswer (writeOf programme (length (now (buffer .entry)))))
+    ensures { λ r. ⌜ (r ≡ answerOf (writeOf programme (length (now (buffer .entry)))))
         × (now (buffer .exit)
-        ≡ tableAfter (writeOf programme (length (now (buffer .entry)))) (now (buffer .entry))) ⌝ }
+        ≡ bufferAfter (writeOf programme (length (now (buffer .entry)))) (now (buffer .entry))) ⌝ }
 {
     table::write(programme, buffer)
 }
@@ -63,20 +61,4 @@ pub extern "C" fn cession_run(
     let ran = run::run(programme, lent, events, buffer);
     *standing = ran.standing;
     ran.answer
-}
-
-// The same from a standing by value, for callers that lend none: it is lent here, and comes back beside the answer.
-pub fn run_from(programme: Programme, standing: Standing, events: &[u8], buffer: &mut [u8]) -> Ran
-    ensures { λ r. ⌜ (r
-        ≡ ranOf (runOf programme standing (now (events .entry)) (length (now (buffer .entry)))) standing)
-        × (now (buffer .exit)
-        ≡ bufferAfter (runOf programme standing (now (events .entry)) (length (now (buffer .entry))))
-        (now (buffer .entry))) ⌝ }
-{
-    let mut lent = standing;
-    let answer = cession_run(programme, &mut lent, events, buffer);
-    Ran {
-        answer,
-        standing: lent,
-    }
 }

@@ -10,6 +10,8 @@ use native.Mathlib.Omega.{arith}
 use lib.Dec.{ltb}
 use lib.ListN.{length, take, drop, length-append}
 use lib.Seq.{length-take-le}
+use Rattle.answer.specs.Outcome.{Outcome, refused, written, answerOf, bufferAfter}
+use Rattle.answer.proofs.Outcomes.{either-way}
 use Rattle.treaty.specs.declared.Treaty.{Treaty}
 use Rattle.programme.specs.declared.contract.Programme.{Programme}
 use Rattle.programme.specs.Contracts.{Contracts, contractsIn}
@@ -18,9 +20,8 @@ use Rattle.events.specs.Event.{Event, formsOf}
 use Rattle.events.specs.Rules.{eventFault}
 use Rattle.events.specs.Read.{EventsRead, turnedDown, events, eventBefore, unlessFault, readFrom, eventsOf}
 use Rattle.year.specs.declared.Standing.{Standing}
-use Rattle.year.specs.Statement.{Statement, statementText}
 use Rattle.year.specs.Standing.{standingPasses}
-use Rattle.year.specs.Run.{Outcome, refused, accepted, fitted, runThrough, runFrom, runOf, answerOf, bufferAfter}
+use Rattle.year.specs.Run.{Left, runThrough, runFrom, runOf}
 use Rattle.engine.specs.declared.run.Ran.{Ran}
 use Rattle.engine.specs.Run.{ranOf}
 
@@ -53,23 +54,18 @@ text-told ts d s = by-length (ltb 65536 (length s))
     by-length false = lines-told ts 1 d (formsOf s)
 
 -- the same of a run
-abbrev Numbered : Outcome → Type 0
+abbrev Numbered : Outcome Left → Type 0
 Numbered (refused n w) = 0 < n
-Numbered (accepted t s) = Unit {0}
+Numbered (written t after) = Unit {0}
 
-either : (b : Bool) (x y : Outcome) → Numbered x → Numbered y → Numbered (elim b [ true ↦ x | false ↦ y ])
+either : (b : Bool) (x y : Outcome Left) → Numbered x → Numbered y → Numbered (elim b [ true ↦ x | false ↦ y ])
 either true x y h g = h
 either false x y h g = g
-
-fitted-numbered : (room : ℕ) (t : Statement) (s : Standing) → Numbered (fitted room t s)
-unfolding fitted
-fitted-numbered room t s =
-    either (ltb room (length (statementText t))) (refused 7 (length (statementText t))) (accepted t s) (omega arith) tt
 
 through-numbered : (c : Contracts) (s : Standing) (room : ℕ) (r : EventsRead) → Told r
     → Numbered (runThrough c s room r)
 through-numbered c s room (turnedDown n w) h = h
-through-numbered c s room (events es) h = fitted-numbered room _ _
+through-numbered c s room (events es) h = either-way room _ _ Numbered (λ _. tt) (λ _. omega arith)
 
 from-numbered : (c : Contracts) (s : Standing) (text : List ℕ) (room : ℕ) → Numbered (runFrom c s text room)
 unfolding runFrom
@@ -85,11 +81,10 @@ run-numbered p s text room =
     (omega arith)
 
 -- an outcome that is not refused fills the front of the buffer
-front : (o : Outcome) (d : List ℕ) → Numbered o → answerOf o .refusal ≡ 0
+front : (o : Outcome Left) (d : List ℕ) → Numbered o → answerOf o .refusal ≡ 0
     → answerOf o .number ≤ length (bufferAfter o d)
 front (refused n w) d h e = omega (arith, h, e)
-front (accepted t s) d h e =
-    omega (arith, length-append (statementText t) (drop (length (statementText t)) d))
+front (written t after) d h e = omega (arith, length-append t (drop (length t) d))
 
 -- the statement of a run whose answer has refusal 0 lies in the buffer
 module _ (p : Programme) (s : Standing) (text d d′ : List ℕ) (r : Ran) where

@@ -1,5 +1,6 @@
 // The program: the table from programme.txt in the current folder, the events from standard input, and on standard
 // output the statement of a year opened for them, or the refusal.
+use engine::run;
 use libc::STDIN_FILENO;
 use libc::STDOUT_FILENO;
 use programme::contract::Programme;
@@ -59,10 +60,10 @@ fn run_year(programme: Programme, standing: Standing) {
     run_events(programme, standing, &events[..text.size]);
 }
 
-// The statement of a run, or its refusal.
+// The statement of a run, or its refusal. The run is the one by value below `cession_run`: no standing is lent here.
 fn run_events(programme: Programme, standing: Standing, events: &[u8]) {
     let mut statement = io::large_buffer();
-    let ran = cession::run_from(programme, standing, events, &mut statement);
+    let ran = run::run(programme, standing, events, &mut statement);
     let answer = ran.answer;
     if answer.refusal != 0 {
         refuse(answer.refusal, answer.number);

@@ -4,8 +4,9 @@ use mathlib.Core.Path.{_≡_, refl, ap, _∙_}
 use mathlib.Core.List.{List, _++_}
 use Prim.Native.Nat.{ℕ, _<_}
 use native.Mathlib.Omega.{arith}
-use borrow.Author.Tests.{lt-ltb}
 use lib.ListN.{length}
+use Rattle.answer.specs.Outcome.{Outcome, refused, bufferAfter}
+use Rattle.answer.proofs.Outcomes.{too-long}
 use Rattle.programme.specs.declared.contract.Programme.{Programme}
 use Rattle.programme.specs.Contracts.{Contracts, treatiesIn, contractsIn}
 use Rattle.text.proofs.Puts.{no-bytes}
@@ -13,7 +14,7 @@ use Rattle.events.specs.Event.{formsOf}
 use Rattle.events.specs.Read.{EventsRead, turnedDown, events, readFrom}
 use Rattle.year.specs.declared.Standing.{Standing}
 use Rattle.year.specs.Statement.{Statement, statementText}
-use Rattle.year.specs.Run.{Outcome, refused, fitted, runThrough, bufferAfter}
+use Rattle.year.specs.Run.{Left, statementFitted, runThrough}
 use Rattle.statement.specs.Shows.{leastBytes}
 use Rattle.statement.proofs.Shown.{statement-long}
 use Rattle.engine.specs.declared.run.Ran.{Ran}
@@ -21,9 +22,8 @@ use Rattle.engine.specs.Run.{ranOf, RanAs, runLines}
 
 -- no statement fits
 too-short : (room : ℕ) → room < leastBytes → (t : Statement) (s : Standing)
-    → fitted room t s ≡ refused 7 (length (statementText t))
-unfolding fitted
-too-short room h t s = simp (fitted, lt-ltb room (length (statementText t)) (omega (arith, statement-long t)))
+    → statementFitted room t s ≡ refused 7 (length (statementText t))
+too-short room h t s = too-long room (statementText t) _ (omega (arith, statement-long t))
 
 module _ (c : Contracts) (s : Standing) (room : ℕ) (h : room < leastBytes) where
   -- what a run comes to is what it comes to without a buffer
@@ -41,6 +41,6 @@ pub as-without : (p : Programme) (s : Standing) (text d e : List ℕ) (r : Ran) 
     → r ≡ ranOf (runLines p s text 0) s → length e ≡ 0 → RanAs (runLines p s text (length d)) s d (e ++ d) r
 as-without p s text d e r h a none =
     let read = readFrom (treatiesIn (p .treaties)) 1 (s .day) (formsOf text) in (
-      a ∙ ap (λ (o : Outcome). ranOf o s) (as-none (contractsIn p) s (length d) h read),
+      a ∙ ap (λ (o : Outcome Left). ranOf o s) (as-none (contractsIn p) s (length d) h read),
       no-bytes e d none ∙ left-alone (contractsIn p) s (length d) h read d,
     )

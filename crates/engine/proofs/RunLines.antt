@@ -15,6 +15,7 @@ use Rattle.text.proofs.Puts.{put-whole}
 use Rattle.treaty.specs.declared.Treaty.{Treaty}
 use Rattle.treaty.proofs.Losses.{Numbered}
 use Rattle.layer.specs.declared.terms.Terms.{Terms}
+use Rattle.answer.specs.Outcome.{refused, bufferAfter}
 use Rattle.programme.specs.declared.contract.Programme.{Programme}
 use Rattle.programme.specs.Contracts.{programmeOf, treatiesIn, layersIn, contractsIn}
 use Rattle.programme.specs.Rules.{treatyNumber}
@@ -28,7 +29,7 @@ use Rattle.year.specs.Event.{Year, yearAfter}
 use Rattle.year.specs.Statement.{treatyLineOf, layerLineOf, Statement, statementOf}
 use Rattle.year.specs.Statement.{linesShown}
 use Rattle.year.specs.Standing.{standingOf, yearOf, layersWith}
-use Rattle.year.specs.Run.{refused, fitted, runThrough, bufferAfter}
+use Rattle.year.specs.Run.{statementFitted, runThrough}
 use Rattle.year.proofs.Treaties.{passed-numbers, passed-rising}
 use Rattle.year.proofs.Shown.{event-lines-length, risk-length, cat-length}
 use Rattle.losses.specs.declared.register.Register.{Register}
@@ -246,14 +247,14 @@ module _ {p : Programme} {s : Standing} {text d₀ : List ℕ} (can : CanRun 655
                 let day = a .stands .day ∙ ap (λ (d : ℕ). lastDay d (a .es)) (f .day) in
                 e ∙ (λ i. standingOf (year i) (day i))
 
-            outcome : (room : ℕ) → runLines p s text room ≡ fitted room shown after
+            outcome : (room : ℕ) → runLines p s text room ≡ statementFitted room shown after
             outcome room =
                 ap (runThrough (contractsIn p) s room) (a .read)
-                ∙ (λ i. fitted room (statementOf ts (sym (f .year) i) (a .es)) (sym after-is i))
+                ∙ (λ i. statementFitted room (statementOf ts (sym (f .year) i) (a .es)) (sym after-is i))
 
             pub states : (b b′ : List ℕ) (x : Ran)
                 → ((t : Statement) → Shows t (take end d′) counts
-                → (x ≡ ranOf (fitted (length b) t after) s) × (b′ ≡ bufferAfter (fitted (length b) t after) b))
+                → (x ≡ ranOf (statementFitted (length b) t after) s) × (b′ ≡ bufferAfter (statementFitted (length b) t after) b))
                 → (x ≡ ranOf (runLines p s text (length b)) s)
                 × (b′ ≡ bufferAfter (runLines p s text (length b)) b)
             states b b′ x w = rw (outcome (length b)) (w shown shows)

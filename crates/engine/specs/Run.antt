@@ -6,6 +6,7 @@ use mathlib.Core.List.{List, _++_, map}
 use Prim.Native.Nat.{ℕ, _+_, _*_, _^_, _≤_, _<_}
 use lib.ListN.{length}
 use Rattle.lists.specs.Each.{Each}
+use Rattle.answer.specs.Outcome.{Outcome, answerOf, bufferAfter}
 use Rattle.treaty.specs.declared.Treaty.{Treaty}
 use Rattle.layer.specs.Tier.{layersOf}
 use Rattle.programme.specs.declared.contract.Treaties.{Treaties}
@@ -17,7 +18,7 @@ use Rattle.events.specs.Read.{readFrom}
 use Rattle.year.specs.declared.Standing.{Standing}
 use Rattle.year.specs.Standing.{standingPasses}
 use Rattle.year.specs.Statement.{amountsNumbers, treatyShown, layerLineOf}
-use Rattle.year.specs.Run.{Outcome, runThrough, answerOf, bufferAfter, standingAfter}
+use Rattle.year.specs.Run.{Left, runThrough, standingAfter}
 use Rattle.statement.specs.declared.row.Kind.the-variants.{Event}
 use Rattle.statement.specs.Numbers.{numbersOf, layersNumbers, cededLine}
 use Rattle.statement.specs.LineKinds.{widthOf, restWidth}
@@ -26,19 +27,19 @@ use Rattle.booking.specs.Records.{SoundRecords}
 use Rattle.engine.specs.declared.run.Ran.{Ran}
 
 -- the answer of an outcome, and the standing after it
-abbrev pub ranOf : Outcome → Standing → Ran
+abbrev pub ranOf : Outcome Left → Standing → Ran
 ranOf o lent = record { answer = answerOf o; standing = standingAfter o lent }
 
 -- what an accepted run gives back: the statement's length, and the standing after it
-abbrev pub writtenRan : (length : ℕ) → Standing → Ran
+abbrev pub writtenRan : (bytes : ℕ) → Standing → Ran
 writtenRan n after = record { answer = record { refusal = 0; number = n }; standing = after }
 
 -- the two equations of a run's promise: what it gives back, and what the buffer d is after it
-abbrev pub RanAs : Outcome → Standing → (d d′ : List ℕ) → Ran → Type 0
+abbrev pub RanAs : Outcome Left → Standing → (d d′ : List ℕ) → Ran → Type 0
 RanAs o lent d d′ r = (r ≡ ranOf o lent) × (d′ ≡ bufferAfter o d)
 
 -- what a run that is past 6, 8 and 9 comes to, with a buffer of `room` bytes
-abbrev pub runLines : Programme → Standing → (text : List ℕ) (room : ℕ) → Outcome
+abbrev pub runLines : Programme → Standing → (text : List ℕ) (room : ℕ) → Outcome Left
 runLines p s text room =
     runThrough (contractsIn p) s room (readFrom (treatiesIn (p .treaties)) 1 (s .day) (formsOf text))
 

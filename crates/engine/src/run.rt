@@ -3,17 +3,18 @@
 ghost use mathlib.Core.Path.{_≡_};
 ghost use Prim.Native.Nat.{_+_, _≤_};
 ghost use lib.ListN.{length};
+ghost use Rattle.answer.specs.Outcome.{refused, bufferAfter};
 ghost use Rattle.programme.specs.Contracts.{treatiesIn};
 ghost use Rattle.text.specs.Buffer.{Put};
 ghost use Rattle.year.specs.Statement.{Statement};
-ghost use Rattle.year.specs.Run.{refused, fitted, runOf, bufferAfter};
+ghost use Rattle.year.specs.Run.{statementFitted, runOf};
 ghost use Rattle.statement.specs.LineKinds.{restWidth};
 ghost use Rattle.statement.specs.Shows.{Fits, Shows};
 ghost use Rattle.engine.specs.Run.{ranOf, writtenRan, RanAs, runLines, restNumbers, CanKeep, CanRun, PlacesFor};
+use answer::Answer;
 use booking::progress::Progress;
 use lines::pass;
 use losses::register;
-use programme::Answer;
 use programme::contract::Programme;
 use programme::contract::Treaties;
 use programme::valid;
@@ -39,14 +40,14 @@ fn refused(refusal: u64, number: u64, lent: Standing) -> Ran
     }
 }
 
-// An accepted run's statement of `length` bytes was written.
-fn written(length: usize, after: Standing) -> Ran
-    ensures { λ r. ⌜ r ≡ writtenRan length after ⌝ }
+// An accepted run's statement of so many bytes was written.
+fn written(bytes: usize, after: Standing) -> Ran
+    ensures { λ r. ⌜ r ≡ writtenRan bytes after ⌝ }
 {
     Ran {
         answer: Answer {
             refusal: 0,
-            number: length as u64,
+            number: bytes as u64,
         },
         standing: after,
     }
@@ -76,7 +77,7 @@ fn write_measured(
 ) -> Ran
     requires { ⌜ Fits (now numbers) counts ⌝ }
     ensures { λ r. ⌜ ((t : Statement) → Shows t (now (numbers .entry)) counts
-        → RanAs (fitted (length (now (buffer .entry))) t after) lent (now (buffer .entry)) (now (buffer .exit)) r) ⌝ }
+        → RanAs (statementFitted (length (now (buffer .entry))) t after) lent (now (buffer .entry)) (now (buffer .exit)) r) ⌝ }
 {
     let needed = print::measure(numbers, counts);
     if buffer.len() < needed {
@@ -91,7 +92,7 @@ fn write_measured(
 fn write(numbers: &[u64], counts: Counts, lent: Standing, after: Standing, buffer: &mut [u8]) -> Ran
     requires { ⌜ Fits (now numbers) counts ⌝ }
     ensures { λ r. ⌜ ((t : Statement) → Shows t (now (numbers .entry)) counts
-        → RanAs (fitted (length (now (buffer .entry))) t after) lent (now (buffer .entry)) (now (buffer .exit)) r) ⌝ }
+        → RanAs (statementFitted (length (now (buffer .entry))) t after) lent (now (buffer .entry)) (now (buffer .exit)) r) ⌝ }
 {
     let lines = counts.events + counts.treaties + counts.risk + counts.cat + 1;
     if 200 * lines <= buffer.len() {

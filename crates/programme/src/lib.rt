@@ -4,10 +4,3 @@ pub mod contract;
 pub mod range;
 pub mod rule;
 pub mod valid;
-
-// What writing and running answer: refusal 0 and the length of the text written, or a refusal and its second number.
-#[repr(C)]
-pub struct Answer {
-    pub refusal: u64,
-    pub number: u64,
-}

@@ -7,8 +7,8 @@ ghost use lib.ListN.{length};
 use crate::show;
 use crate::show::number;
 use crate::show::words;
+use answer::Answer;
 use engine::run;
-use programme::Answer;
 use programme::contract::Programme;
 use year::Standing;
 

@@ -5,14 +5,15 @@ use mathlib.Core.Bool.{Bool, true, false}
 use mathlib.Core.List.{List, _++_}
 use Prim.Native.Nat.{ℕ, _≤_, _<_}
 use native.Mathlib.Omega.{arith}
-use borrow.Author.Tests.{lt-ltb, le-ltb}
 use lib.ListN.{length}
 use Rattle.text.specs.Buffer.{Put}
-use Rattle.text.proofs.Puts.{put-whole, no-bytes}
-use Rattle.programme.specs.declared.Answer.{Answer}
+use Rattle.text.proofs.Puts.{no-bytes}
+use Rattle.answer.specs.declared.Answer.{Answer}
+use Rattle.answer.specs.Outcome.{refused, nothing, fitted, answerOf, bufferAfter}
+use Rattle.answer.proofs.Outcomes.{too-long, fits, put-after}
 use Rattle.programme.specs.declared.contract.Programme.{Programme}
 use Rattle.programme.specs.Valid.{valid}
-use Rattle.table_text.specs.Write.{textOf, fitted, writeOf, answerOf, bufferAfter, refused, written}
+use Rattle.table_text.specs.Write.{textOf, writeOf}
 
 -- for the answer t of the test whether some text reads to p, and the buffer d
 module _ (p : Programme) (t : Bool) (e : t ≡ valid p) where
@@ -37,11 +38,15 @@ module _ (p : Programme) (t : Bool) (e : t ≡ valid p) where
       size : length (textOf p) ≡ n
       size = omega (arith, measured .place)
 
+      outcome-fitted : writeOf p (length d) ≡ fitted (length d) (textOf p) nothing
+      unfolding writeOf
+      outcome-fitted = simp (writeOf, is-valid f)
+
       -- the answer and the buffer where the text is longer than the buffer
       module _ (h : length (m′ ++ d) < n) where
         outcome-7 : writeOf p (length d) ≡ refused 7 n
-        unfolding writeOf fitted
-        outcome-7 = simp (writeOf, fitted, is-valid f, size, lt-ltb _ _ (rw (no-bytes m′ d none) at h))
+        outcome-7 =
+            outcome-fitted ∙ too-long (length d) (textOf p) nothing (rw (no-bytes m′ d none, ← size) at h) ∙ rw size
 
         pub answer-7 : _≡_ {A = Answer} (record { refusal = 7; number = n }) (answerOf (writeOf p (length d)))
         answer-7 = rw outcome-7 refl
@@ -51,15 +56,14 @@ module _ (p : Programme) (t : Bool) (e : t ≡ valid p) where
 
       -- the answer and the buffer where it is not longer and is put into the whole of it
       module _ (h : n ≤ length (m′ ++ d)) where
-        outcome-text : writeOf p (length d) ≡ written (textOf p)
-        unfolding writeOf fitted
-        outcome-text = simp (writeOf, fitted, is-valid f, size, le-ltb _ _ (rw (no-bytes m′ d none) at h))
+        within : length (textOf p) ≤ length d
+        within = let l = rw (no-bytes m′ d none) at h in omega (arith, size)
 
         pub answer-text : _≡_ {A = Answer} (record { refusal = 0; number = n }) (answerOf (writeOf p (length d)))
-        answer-text = rw (outcome-text, size) refl
+        answer-text = rw (outcome-fitted, fits (length d) (textOf p) nothing within, size) refl
 
         pub buffer-text : {d′ : List ℕ} {end : ℕ} → Put (m′ ++ d) 0 (textOf p) d′ end
             → d′ ≡ bufferAfter (writeOf p (length d)) d
         buffer-text q =
-            let l = rw (no-bytes m′ d none) at h in
-            rw outcome-text (put-whole (omega (arith, size)) (rw (no-bytes m′ d none) at q))
+            let r = rw (no-bytes m′ d none) at q in
+            rw outcome-fitted (put-after (textOf p) d nothing r (omega (arith, within, r .place)))

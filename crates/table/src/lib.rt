@@ -1,13 +1,14 @@
 // Reading and writing a treaty table.
 ghost use mathlib.Core.Path.{_≡_};
 ghost use lib.ListN.{length};
+ghost use Rattle.answer.specs.Outcome.{answerOf, bufferAfter};
 ghost use Rattle.programme.specs.Contracts.{noContracts};
 ghost use Rattle.table_text.specs.Forms.{formsOf};
 ghost use Rattle.table_text.specs.Read.{refusedAt, readFrom, readOf};
-ghost use Rattle.table_text.specs.Write.{writeOf, answerOf, bufferAfter};
+ghost use Rattle.table_text.specs.Write.{writeOf};
 ghost use Rattle.table.specs.LineByLine.{readPlaces};
+use answer::Answer;
 use layer::terms::Terms;
-use programme::Answer;
 use programme::contract;
 use programme::contract::Contract;
 use programme::contract::Layers;

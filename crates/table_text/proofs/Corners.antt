@@ -13,6 +13,7 @@ use Rattle.treaty.specs.declared.Treaty.{Treaty}
 use Rattle.treaty.specs.Treaty.{quotaOf, surplusOf}
 use Rattle.layer.specs.declared.terms.Terms.{Terms}
 use Rattle.layer.specs.Layer.{termsOf}
+use Rattle.answer.specs.Outcome.{refused, written, nothing, fitted}
 use Rattle.programme.specs.declared.contract.Programme.{Programme}
 use Rattle.programme.specs.Contracts.{Contracts, noContracts, noTreaty, noTerms, programmeOf}
 use Rattle.programme.specs.Ranges.{outside, treatyOutside, termsOutside, treatyNotZero, termsNotZero}
@@ -22,7 +23,7 @@ use Rattle.programme.proofs.Corners.{eightTerms, withRisk}
 use Rattle.table_text.specs.declared.Reading.{Reading}
 use Rattle.table_text.specs.Forms.{kindOf, formOfKind, formOf, treatyLine}
 use Rattle.table_text.specs.Read.{refusedAt, readAs, readFrom, readOf}
-use Rattle.table_text.specs.Write.{refused, written, fitted, writeOf}
+use Rattle.table_text.specs.Write.{writeOf}
 
 -- the text of some lines, and what it reads to
 abbrev text : List String → List ℕ
@@ -178,10 +179,10 @@ pub record Corners : Type 0 where
       ∷ "none" ∷ [])
       ≡ refusedAt 5 2
   -- writing: the text, its length with 7
-  pub writes : writeOf (programmeOf sidneyContracts) 240 ≡ written (text sidney)
-  pub exactly : writeOf (programmeOf allContracts) 235 ≡ written (text allForms)
+  pub writes : writeOf (programmeOf sidneyContracts) 240 ≡ written (text sidney) nothing
+  pub exactly : writeOf (programmeOf allContracts) 235 ≡ written (text allForms) nothing
   pub one-short : writeOf (programmeOf allContracts) 234 ≡ refused 7 235
-  pub nothing : writeOf (programmeOf noContracts) 0 ≡ written []
+  pub no-lines : writeOf (programmeOf noContracts) 0 ≡ written [] nothing
   -- 6: a range, unused places that are not 0, kinds, a term of the other kind
   pub limit-1 : writeOf (withRisk 1 (alone (termsOf 0 1 0 0 0 0 0))) 0 ≡ refused 7 53
   pub limit-0 : writeOf (withRisk 1 (alone (termsOf 0 0 0 0 0 0 0))) 0 ≡ refused 6 0
@@ -229,7 +230,7 @@ corners = record {
   writes = refl;
   exactly = refl;
   one-short = refl;
-  nothing = refl;
+  no-lines = refl;
   limit-1 = refl;
   limit-0 = refl;
   unused-risk = refl;

@@ -5,16 +5,17 @@ use mathlib.Core.Bool.{true}
 use mathlib.Core.List.{List}
 use Prim.Native.Nat.{ℕ, _≤_}
 use native.Mathlib.Omega.{arith}
-use borrow.Author.Tests.{lt-ltb, le-ltb}
 use lib.ListN.{length}
 use Rattle.lists.specs.Each.{Each}
 use Rattle.lists.proofs.Cases.{by-test, by-lt}
 use Rattle.text.proofs.Ascii.{Byte}
+use Rattle.answer.specs.Outcome.{written, nothing}
+use Rattle.answer.proofs.Outcomes.{fits, too-long}
 use Rattle.programme.specs.declared.contract.Programme.{Programme}
 use Rattle.programme.specs.Valid.{valid}
 use Rattle.table_text.specs.declared.Reading.{Reading}
 use Rattle.table_text.specs.Read.{readAs, readOf}
-use Rattle.table_text.specs.Write.{textOf, written, fitted, writeOf}
+use Rattle.table_text.specs.Write.{textOf, writeOf}
 use Rattle.table_text.proofs.RoundTrip.{read-valid, read-written, written-read, text-bytes}
 
 -- some text of bytes is read as the programme p
@@ -32,21 +33,22 @@ valid-exactly p = (
 
 -- a text that is read as a programme is what writing the programme gives, byte for byte, where the buffer has the room
 pub read-then-write : (s : List ℕ) (p : Programme) (room : ℕ) → readOf s ≡ readAs p → length s ≤ room
-    → writeOf p room ≡ written s
-unfolding writeOf fitted
+    → writeOf p room ≡ written s nothing
+unfolding writeOf
 read-then-write s p room e h =
     let w = read-written s p e in
     let k : length (textOf p) ≤ room = rw w at h in
-    simp (writeOf, read-valid s p e) (simp (fitted, le-ltb _ _ k) (ap written (sym w)))
+    simp (writeOf, read-valid s p e) (fits room (textOf p) nothing k ∙ ap (λ (t : List ℕ). written t nothing) (sym w))
 
 -- a text that writing a programme gives is read as the programme
-pub write-then-read : (p : Programme) (room : ℕ) (s : List ℕ) → writeOf p room ≡ written s → readOf s ≡ readAs p
-unfolding writeOf fitted
+pub write-then-read : (p : Programme) (room : ℕ) (s : List ℕ) → writeOf p room ≡ written s nothing
+    → readOf s ≡ readAs p
+unfolding writeOf
 write-then-read p room s e =
     by-test (valid p)
     (λ v. by-lt room (length (textOf p))
-    (λ h. let n : _≡_ {A = ℕ} 0 1 = cc (simp (writeOf, fitted, ← v, lt-ltb _ _ h) at e) in absurd (omega arith))
-    (λ h. let same : written (textOf p) ≡ written s = simp (writeOf, fitted, ← v, le-ltb _ _ h) at e in
+    (λ h. let n : _≡_ {A = ℕ} 0 1 = cc (simp (writeOf, ← v, too-long room (textOf p) nothing h) at e) in absurd (omega arith))
+    (λ h. let same : written (textOf p) nothing ≡ written s nothing = simp (writeOf, ← v, fits room (textOf p) nothing h) at e in
     let text : textOf p ≡ s = cc in
     rw (← text) (written-read p (sym v))))
     (λ v. let n : _≡_ {A = ℕ} 0 1 = cc (simp (writeOf, ← v) at e) in absurd (omega arith))

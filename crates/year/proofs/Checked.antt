@@ -16,6 +16,7 @@ use Rattle.treaty.specs.Losses.{cededIn}
 use Rattle.layer.specs.declared.terms.Terms.{Terms}
 use Rattle.layer.specs.Layer.{termsOf, broughtBy, layerOf, recoveriesOf, placedOf, recoveredOf, premiumOf, recoveryOf}
 use Rattle.layer.specs.Layer.{chargeOf}
+use Rattle.answer.specs.Outcome.{Outcome, fitted, answerOf, bufferAfter}
 use Rattle.programme.specs.declared.contract.Programme.{Programme}
 use Rattle.programme.specs.Ranges.{outside, treatyOutside, termsOutside, treatyNotZero, termsNotZero}
 use Rattle.programme.specs.Rules.{treatyFault, layerFault}
@@ -28,7 +29,7 @@ use Rattle.events.specs.Read.{eventsOf, readFrom as eventsFrom}
 use Rattle.year.specs.Event.{subjectOf}
 use Rattle.year.specs.Statement.{statementText}
 use Rattle.year.specs.Standing.{openOf, standingPasses}
-use Rattle.year.specs.Run.{Outcome, fitted, runFrom, runOf, answerOf, bufferAfter, standingAfter}
+use Rattle.year.specs.Run.{Left, runFrom, runOf, standingAfter}
 
 -- the table of H1, the run of its event text from an opened year, and the statement that it prints
 abbrev h1-table : List ℕ
@@ -40,7 +41,7 @@ h1-table =
 abbrev h1 : Programme
 h1 = readOf h1-table .programme
 
-abbrev h1-run : Outcome
+abbrev h1-run : Outcome Left
 h1-run = runOf h1 (openOf h1 .standing) (bytes "(event 230 (loss 0 350000000 350000000))\n") 444
 
 abbrev h1-statement : List ℕ

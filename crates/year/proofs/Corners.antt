@@ -13,7 +13,8 @@ use Rattle.text.specs.Template.{capital, filled, matched}
 use Rattle.text.specs.Lines.{linesOf}
 use Rattle.treaty.specs.Treaty.{quotaOf}
 use Rattle.layer.specs.Layer.{termsOf, placedOf, recoveredOf, premiumOf, recoveryOf, chargeOf}
-use Rattle.programme.specs.declared.Answer.{Answer}
+use Rattle.answer.specs.declared.Answer.{Answer}
+use Rattle.answer.specs.Outcome.{fitted, answerOf, bufferAfter}
 use Rattle.programme.specs.declared.contract.Programme.{Programme}
 use Rattle.programme.specs.Contracts.{noContracts, programmeOf}
 use Rattle.programme.specs.Ranges.{outside, treatyOutside, termsOutside, treatyNotZero, termsNotZero}
@@ -25,7 +26,7 @@ use Rattle.year.specs.declared.Standing.{Standing}
 use Rattle.year.specs.Event.{subjectOf}
 use Rattle.year.specs.Statement.{statementText}
 use Rattle.year.specs.Standing.{fresh, standingPasses, openOf}
-use Rattle.year.specs.Run.{fitted, runFrom, runOf, answerOf, bufferAfter, standingAfter}
+use Rattle.year.specs.Run.{runFrom, runOf, standingAfter}
 use Rattle.year.proofs.Examples.{standing}
 
 -- one treaty, one risk layer with a cap of 3,100 and one catastrophe layer with a cap of 3,000

@@ -18,6 +18,7 @@ use Rattle.layer.specs.declared.terms.Terms.{Terms}
 use Rattle.layer.specs.declared.record.Layer.{Layer}
 use Rattle.layer.specs.Layer.{capOf, deductibleLeftOf, coverLeftOf}
 use Rattle.layer.proofs.Year.{spent-determined}
+use Rattle.answer.specs.Outcome.{Outcome}
 use Rattle.programme.specs.declared.contract.Programme.{Programme}
 use Rattle.programme.specs.Contracts.{Contracts, contractsIn}
 use Rattle.programme.specs.Valid.{valid}
@@ -29,7 +30,7 @@ use Rattle.year.specs.Tiers.{TierName, risk, cat, inTier}
 use Rattle.year.specs.Event.{Year}
 use Rattle.year.specs.Statement.{Statement, LayerLine, layerLineOf, statementOf, statementText}
 use Rattle.year.specs.Standing.{spentOf}
-use Rattle.year.specs.Run.{Outcome, accepted, runOf}
+use Rattle.year.specs.Run.{Left, accepted, runOf}
 use Rattle.year.specs.History.{Call, Reply, replyOf, repliesIn, eventsOfHistory, ledgerOfHistory, endsOn}
 use Rattle.year.specs.History.{repliesAfter, spentIn, standingOfHistory}
 use Rattle.year.proofs.Layers.{Carries, WithinCap, termsIn, carries-sound, carries-length, same-length}
@@ -181,7 +182,7 @@ module _ (p : Programme) where
             → repliesAfter p g (call ∷ [])
             ≡ replyOf (accepted (shown (eventsOfHistory p g)) (after g)) (call .buffer) ∷ []
         replied g r =
-            ap (λ (o : Outcome). replyOf o (call .buffer) ∷ []) (empty-run g (length (call .buffer)) (rw room r))
+            ap (λ (o : Outcome Left). replyOf o (call .buffer) ∷ []) (empty-run g (length (call .buffer)) (rw room r))
 
         real : Real call
         real = record {

@@ -16,6 +16,7 @@ use Rattle.text.specs.Lines.{linesOf}
 use Rattle.treaty.specs.Treaty.{coveredPart, cededByQuota, cededBySurplus, cededOf, cededOfLoss}
 use Rattle.treaty.specs.Losses.{cededIn}
 use Rattle.layer.specs.Layer.{placedOf, recoveredOf, premiumOf, recoveryOf, chargeOf}
+use Rattle.answer.specs.Outcome.{fitted}
 use Rattle.programme.specs.declared.contract.Programme.{Programme}
 use Rattle.programme.specs.Contracts.{contractsIn}
 use Rattle.programme.specs.Ranges.{outside, treatyOutside, termsOutside, treatyNotZero, termsNotZero}
@@ -30,7 +31,7 @@ use Rattle.year.specs.declared.Standing.{Standing}
 use Rattle.year.specs.Event.{subjectOf}
 use Rattle.year.specs.Statement.{statementText}
 use Rattle.year.specs.Standing.{fresh, standingPasses}
-use Rattle.year.specs.Run.{fitted, runFrom, runOf}
+use Rattle.year.specs.Run.{runFrom, runOf}
 use Rattle.year.specs.Ledger.{Entry, recoveryAdded}
 use Rattle.year.specs.History.{Call, Reply, repliesIn, standingOfHistory, statementsOf, ledgerOfHistory, endsOn}
 use Rattle.year.specs.History.{repliesAfter, spentIn, recoveriesIn, summed, eventsOfHistory, grossIn, cededByAll}

@@ -13,6 +13,7 @@ use Rattle.lists.proofs.Chains.{last-append}
 use Rattle.lists.proofs.Each.{each-of, each-map}
 use Rattle.layer.specs.declared.terms.Terms.{Terms}
 use Rattle.layer.specs.declared.record.Layer.{Layer}
+use Rattle.answer.specs.Outcome.{Outcome}
 use Rattle.programme.specs.declared.contract.Programme.{Programme}
 use Rattle.programme.specs.Contracts.{contractsIn}
 use Rattle.programme.specs.Valid.{valid}
@@ -25,7 +26,7 @@ use Rattle.year.specs.Tiers.{risk, cat}
 use Rattle.year.specs.Event.{Year, yearAfter}
 use Rattle.year.specs.Statement.{Statement, statementOf}
 use Rattle.year.specs.Standing.{fresh, spentOf, standingOf, yearOf}
-use Rattle.year.specs.Run.{Outcome, standingAfter}
+use Rattle.year.specs.Run.{Left, standingAfter}
 use Rattle.year.specs.Ledger.{Entry, firstEntry, firstLedger, eventsIf, eventsFed}
 use Rattle.year.specs.History.{Call, outcomeOf, standingIn, statementBefore, statementsIn, isAccepted, fedIn}
 use Rattle.year.specs.History.{standingOfHistory, statementsOf, eventsOfHistory}
@@ -130,7 +131,7 @@ module _ (p : Programme) where
     through [] es s g = done es s g
     through (c ∷ cs) es s g = go (through cs) (outcomeOf p s c) (ran p s (c .text) (length (c .buffer)))
       where
-        go : ((fs : List Event) (r : Standing) → Stands r fs → Holds fs r cs) → (o : Outcome)
+        go : ((fs : List Event) (r : Standing) → Stands r fs → Holds fs r cs) → (o : Outcome Left)
             → Ran p s (c .text) (length (c .buffer)) o
             → Φ es (statementBefore o (statementsIn p (standingAfter o s) cs))
             (eventsIf (isAccepted o) (c .text) ++ eventsFed (fedIn p (standingAfter o s) cs))

@@ -1,14 +1,14 @@
 -- What a run comes to, by the tests that it passes: it is refused, or all of them are passed and the outcome is the
 -- statement of the events read and the standing after them.
 -- Assumes nothing.
-use mathlib.Core.Path.{_≡_, refl}
+use mathlib.Core.Path.{_≡_, refl, ap}
 use mathlib.Core.Bool.{Bool, true, false}
 use mathlib.Core.List.{List}
 use Prim.Native.Nat.{ℕ, _≤_}
 use native.Mathlib.Omega.{arith}
-use borrow.Author.Tests.{ltb-false, le-ltb}
-use lib.Dec.{ltb}
 use lib.ListN.{length}
+use Rattle.answer.specs.Outcome.{Outcome, refused}
+use Rattle.answer.proofs.Outcomes.{fits, either-way, left-same}
 use Rattle.programme.specs.declared.contract.Programme.{Programme}
 use Rattle.programme.specs.Contracts.{Contracts, contractsIn}
 use Rattle.programme.specs.Valid.{valid}
@@ -18,7 +18,7 @@ use Rattle.year.specs.declared.Standing.{Standing}
 use Rattle.year.specs.Event.{yearAfter}
 use Rattle.year.specs.Statement.{Statement, statementOf, statementText}
 use Rattle.year.specs.Standing.{standingOf, yearOf, standingPasses}
-use Rattle.year.specs.Run.{Outcome, refused, accepted, fitted, runThrough, runFrom, runOf}
+use Rattle.year.specs.Run.{Left, accepted, runThrough, runFrom, runOf}
 
 -- the statement of events from a standing on, and the standing after them
 abbrev pub statementFrom : Contracts → Standing → List Event → Statement
@@ -34,36 +34,24 @@ pub record Passed (p : Programme) (s : Standing) (text : List ℕ) (room : ℕ) 
   pub read : eventsOf (contractsIn p .treaties) (s .day) text ≡ events es
   pub fits : length (statementText (statementFrom (contractsIn p) s es)) ≤ room
 
-pub data Ran (p : Programme) (s : Standing) (text : List ℕ) (room : ℕ) : Outcome → Type 0 where
+pub data Ran (p : Programme) (s : Standing) (text : List ℕ) (room : ℕ) : Outcome Left → Type 0 where
   stays : (n w : ℕ) → Ran p s text room (refused n w)
   moves : (es : List Event) → Passed p s text room es
       → Ran p s text room (accepted (statementFrom (contractsIn p) s es) (standingFrom (contractsIn p) s es))
 
 module _ (p : Programme) (s : Standing) (text : List ℕ) (room : ℕ) where
-  abbrev needed : List Event → ℕ
-  needed es = length (statementText (statementFrom (contractsIn p) s es))
-
   -- every run is one of the two
   pub ran : Ran p s text room (runOf p s text room)
-  unfolding runOf runFrom fitted
+  unfolding runOf runFrom
   ran = by-programme (valid p) refl
     where
-      by-room : (es : List Event) → valid p ≡ true → standingPasses (contractsIn p) s ≡ true
-          → eventsOf (contractsIn p .treaties) (s .day) text ≡ events es
-          → (n : ℕ) (b : Bool) → ltb room (needed es) ≡ b
-          → Ran p s text room (elim b [
-            | true ↦ refused 7 n
-            | false ↦ accepted (statementFrom (contractsIn p) s es) (standingFrom (contractsIn p) s es)
-          ])
-      by-room es v g q n true e = stays 7 n
-      by-room es v g q n false e =
-          moves es (record { programme = v; standing = g; read = q; fits = ltb-false room (needed es) e })
-
       by-events : valid p ≡ true → standingPasses (contractsIn p) s ≡ true → (r : EventsRead)
           → eventsOf (contractsIn p .treaties) (s .day) text ≡ r
           → Ran p s text room (runThrough (contractsIn p) s room r)
       by-events v g (turnedDown n w) q = stays n w
-      by-events v g (events es) q = by-room es v g q _ (ltb room (needed es)) refl
+      by-events v g (events es) q =
+          either-way room (statementText (statementFrom (contractsIn p) s es)) _ (Ran p s text room)
+          (λ h. moves es (record { programme = v; standing = g; read = q; fits = h })) (λ h. stays 7 _)
 
       by-standing : valid p ≡ true → (b : Bool) → standingPasses (contractsIn p) s ≡ b
           → Ran p s text room (elim b [
@@ -81,9 +69,9 @@ module _ (p : Programme) (s : Standing) (text : List ℕ) (room : ℕ) where
   -- and one that passes every test is accepted
   pub passed-runs : (es : List Event) → Passed p s text room es
       → runOf p s text room ≡ accepted (statementFrom (contractsIn p) s es) (standingFrom (contractsIn p) s es)
-  unfolding runOf runFrom fitted
+  unfolding runOf runFrom
   passed-runs es g =
-      simp (runOf, g .programme) (simp (runFrom, g .standing, g .read) (simp (fitted, le-ltb _ _ (g .fits))))
+      simp (runOf, g .programme) (simp (runFrom, g .standing, g .read) (fits room _ _ (g .fits)))
 
   -- what an accepted run was accepted for
   pub record Accepted (t : Statement) (s′ : Standing) : Type 0 where
@@ -96,6 +84,11 @@ module _ (p : Programme) (s : Standing) (text : List ℕ) (room : ℕ) where
   pub was-accepted : (t : Statement) (s′ : Standing) → runOf p s text room ≡ accepted t s′ → Accepted t s′
   was-accepted t s′ e = go (runOf p s text room) ran e
     where
-      go : (o : Outcome) → Ran p s text room o → o ≡ accepted t s′ → Accepted t s′
+      go : (o : Outcome Left) → Ran p s text room o → o ≡ accepted t s′ → Accepted t s′
       go o (stays n w) q = let z : _≡_ {A = ℕ} 0 1 = cc in absurd (omega arith)
-      go o (moves es g) q = record { es = es; passed = g; statement = cc; standing = cc }
+      go o (moves es g) q = record {
+        es = es;
+        passed = g;
+        statement = ap (λ (l : Left). l .statement) (left-same q);
+        standing = ap (λ (l : Left). l .standing) (left-same q);
+      }

@@ -10,7 +10,8 @@ use Rattle.lists.specs.Sums.{sumOf}
 use Rattle.treaty.specs.declared.Treaty.{Treaty}
 use Rattle.treaty.specs.Losses.{grossOf}
 use Rattle.layer.specs.Layer.{recoveredOf}
-use Rattle.programme.specs.declared.Answer.{Answer}
+use Rattle.answer.specs.declared.Answer.{Answer}
+use Rattle.answer.specs.Outcome.{Outcome, refused, written, answerOf, bufferAfter}
 use Rattle.programme.specs.declared.contract.Programme.{Programme}
 use Rattle.events.specs.Event.{Event, lossesIn, lastDay}
 use Rattle.year.specs.declared.Standing.{Standing}
@@ -18,7 +19,7 @@ use Rattle.year.specs.declared.Amounts.{Amounts}
 use Rattle.year.specs.Tiers.{TierName, risk, cat, inTier}
 use Rattle.year.specs.Statement.{Statement, LayerLine, cededBy, added}
 use Rattle.year.specs.Standing.{fresh}
-use Rattle.year.specs.Run.{Outcome, refused, accepted, runOf, answerOf, bufferAfter, standingAfter}
+use Rattle.year.specs.Run.{Left, runOf, standingAfter}
 use Rattle.year.specs.Ledger.{Entry, spentBy, Ledger, Fed, eventsFed, ledgerOf}
 
 -- what is lent to a run but for the standing: the events text and the buffer
@@ -27,7 +28,7 @@ pub record Call : Type 0 where
   pub buffer : List ℕ
 
 -- what a run comes to
-abbrev pub outcomeOf : Programme → Standing → Call → Outcome
+abbrev pub outcomeOf : Programme → Standing → Call → Outcome Left
 outcomeOf p s c = runOf p s (c .text) (length (c .buffer))
 
 -- the standing after a list of runs, each lent the standing that the one before left
@@ -36,9 +37,9 @@ standingIn p s [] = s
 standingIn p s (c ∷ cs) = standingIn p (standingAfter (outcomeOf p s c) s) cs
 
 -- a run's statement before others, where it was accepted
-abbrev pub statementBefore : Outcome → List Statement → List Statement
+abbrev pub statementBefore : Outcome Left → List Statement → List Statement
 statementBefore (refused n w) ts = ts
-statementBefore (accepted t s) ts = t ∷ ts
+statementBefore (written t after) ts = after .statement ∷ ts
 
 -- the statements of the accepted runs
 abbrev pub statementsIn : Programme → Standing → List Call → List Statement
@@ -47,9 +48,9 @@ statementsIn p s (c ∷ cs) =
     statementBefore (outcomeOf p s c) (statementsIn p (standingAfter (outcomeOf p s c) s) cs)
 
 -- whether a run was accepted
-abbrev pub isAccepted : Outcome → Bool
+abbrev pub isAccepted : Outcome Left → Bool
 isAccepted (refused n w) = false
-isAccepted (accepted t s) = true
+isAccepted (written t after) = true
 
 -- what the ledger is fed of the runs
 abbrev pub fedIn : Programme → Standing → List Call → List Fed
@@ -122,7 +123,7 @@ pub record Reply : Type 0 where
   pub buffer : List ℕ
 
 -- how a run is answered that was lent the buffer d
-abbrev pub replyOf : Outcome → List ℕ → Reply
+abbrev pub replyOf : Outcome Left → List ℕ → Reply
 replyOf o d = record { answer = answerOf o; buffer = bufferAfter o d }
 
 -- how a list of runs is answered

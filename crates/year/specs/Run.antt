@@ -4,11 +4,9 @@
 -- the text written; the bytes past it are unchanged." A refusal leaves standing and buffer as lent.
 -- Assumes nothing.
 use mathlib.Core.Bool.{true, false}
-use mathlib.Core.List.{List, _++_}
+use mathlib.Core.List.{List}
 use Prim.Native.Nat.{ℕ}
-use lib.Dec.{ltb}
-use lib.ListN.{length, drop}
-use Rattle.programme.specs.declared.Answer.{Answer}
+use Rattle.answer.specs.Outcome.{Outcome, refused, written, fitted}
 use Rattle.programme.specs.declared.contract.Programme.{Programme}
 use Rattle.programme.specs.Contracts.{Contracts, contractsIn}
 use Rattle.programme.specs.Valid.{valid}
@@ -19,45 +17,37 @@ use Rattle.year.specs.Event.{yearAfter}
 use Rattle.year.specs.Statement.{Statement, statementOf, statementText}
 use Rattle.year.specs.Standing.{standingOf, yearOf, standingPasses}
 
--- what a run comes to: a refusal with its second number, or a statement and the new standing
-pub data Outcome : Type 0 where
-  refused : (refusal number : ℕ) → Outcome
-  accepted : Statement → Standing → Outcome
+-- what an accepted run leaves: the statement, whose text is written, and the new standing
+pub record Left : Type 0 where
+  pub statement : Statement
+  pub standing : Standing
 
--- a statement for a buffer of `room` bytes: 7 and the length needed, where it is longer
-unfoldable pub fitted : (room : ℕ) → Statement → Standing → Outcome
-fitted room t s =
-    elim (ltb room (length (statementText t)))
-    [ true ↦ refused 7 (length (statementText t)) | false ↦ accepted t s ]
+-- an accepted run
+abbrev pub accepted : Statement → Standing → Outcome Left
+accepted t s = written (statementText t) (record { statement = t; standing = s })
+
+-- a statement for a buffer of `room` bytes, with the standing that is left
+abbrev pub statementFitted : (room : ℕ) → Statement → Standing → Outcome Left
+statementFitted room t s = fitted room (statementText t) (record { statement = t; standing = s })
 
 -- the refusal of an events text, or its events from the standing on; without an event the last day stays
-abbrev pub runThrough : Contracts → Standing → (room : ℕ) → EventsRead → Outcome
+abbrev pub runThrough : Contracts → Standing → (room : ℕ) → EventsRead → Outcome Left
 runThrough c s room (turnedDown n w) = refused n w
 runThrough c s room (events es) =
-    fitted room (statementOf (c .treaties) (yearOf c s) es)
+    statementFitted room (statementOf (c .treaties) (yearOf c s) es)
     (standingOf (yearAfter (c .treaties) (yearOf c s) es) (lastDay (s .day) es))
 
 -- the contracts from a standing on: 8, a standing that breaks a rule; then the events text
-unfoldable pub runFrom : Contracts → Standing → (text : List ℕ) (room : ℕ) → Outcome
+unfoldable pub runFrom : Contracts → Standing → (text : List ℕ) (room : ℕ) → Outcome Left
 runFrom c s text room =
     elim (standingPasses c s)
     [ true ↦ runThrough c s room (eventsOf (c .treaties) (s .day) text) | false ↦ refused 8 0 ]
 
 -- a run: 6 first, where no table text reads to the programme
-unfoldable pub runOf : Programme → Standing → (text : List ℕ) (room : ℕ) → Outcome
+unfoldable pub runOf : Programme → Standing → (text : List ℕ) (room : ℕ) → Outcome Left
 runOf p s text room = elim (valid p) [ true ↦ runFrom (contractsIn p) s text room | false ↦ refused 6 0 ]
 
--- the answer: the refusal and its second number, or 0 and the length of the statement written
-abbrev pub answerOf : Outcome → Answer
-answerOf (refused n w) = record { refusal = n; number = w }
-answerOf (accepted t s) = record { refusal = 0; number = length (statementText t) }
-
--- the buffer d after it: as lent, or the statement with the bytes past it unchanged
-abbrev pub bufferAfter : Outcome → List ℕ → List ℕ
-bufferAfter (refused n w) d = d
-bufferAfter (accepted t s) d = statementText t ++ drop (length (statementText t)) d
-
 -- the standing after it: as lent, or the new one
-abbrev pub standingAfter : Outcome → Standing → Standing
+abbrev pub standingAfter : Outcome Left → Standing → Standing
 standingAfter (refused n w) lent = lent
-standingAfter (accepted t s) lent = s
+standingAfter (written t after) lent = after .standing

@@ -21,10 +21,11 @@ use denote.Struct.Laws as LL
 use Rattle.programme.specs.declared.contract.Programme.{Programme}
 use Rattle.programme.proofs.contract.Programme as P
 use Rattle.programme.proofs.contract.Programme.Laws as P′
-use Rattle.programme.proofs.Answer as N
-use Rattle.programme.proofs.Answer.Laws as N′
+use Rattle.answer.proofs.Answer as N
+use Rattle.answer.proofs.Answer.Laws as N′
+use Rattle.answer.specs.Outcome.{Outcome, bufferAfter}
 use Rattle.year.specs.declared.Standing.{Standing}
-use Rattle.year.specs.Run.{Outcome, runOf, bufferAfter}
+use Rattle.year.specs.Run.{Left, runOf}
 use Rattle.year.proofs.Standing as S
 use Rattle.year.proofs.Standing.Laws as S′
 use Rattle.engine.specs.declared.run.Ran.{Ran}
@@ -91,7 +92,7 @@ module _ {M : Type 1} (𝓤 : URA M) (H : Heap 𝓤) (A : Atoms 𝓤) (W : Given
       ∷ []
 
   -- what the run comes to: the answer with the standing, and the buffer
-  abbrev outcome : Outcome
+  abbrev outcome : Outcome Left
   outcome = runOf p h (e .now) (length (z .now))
 
   abbrev Said : Ran → List ℕ → Type 0

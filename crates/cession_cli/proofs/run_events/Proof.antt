@@ -8,11 +8,11 @@ use Rattle.cession_cli.proofs.run_events.Tie as tie
 large-buffer-requires : tie.Need-large-buffer-requires
 large-buffer-requires c κs = search needs
 
-slice-aggregate-run-from : tie.Need-slice-aggregate-run-from
-slice-aggregate-run-from c = search needs
+slice-aggregate-run : tie.Need-slice-aggregate-run
+slice-aggregate-run c = search needs
 
-run-from-requires : tie.Need-run-from-requires
-run-from-requires c κs = search needs
+run-requires : tie.Need-run-requires
+run-requires c κs = search needs
 
 refuse-requires : tie.Need-refuse-requires
 refuse-requires c κs = search needs
@@ -37,8 +37,8 @@ run-events-spec =
     tie.close
     (tie.spec
     large-buffer-requires
-    slice-aggregate-run-from
-    run-from-requires
+    slice-aggregate-run
+    run-requires
     refuse-requires
     returns
     array-share-prefix-statement
