@@ -28,7 +28,7 @@ pub begins : (p : Programme) (s : Standing) → valid p ≡ true → standingPas
       records = record { risk = risk; cat = cat };
       day = s .day;
       total = total;
-      kept = 0;
+      next = 0;
     })
 begins p s v g risk cat a m b n total t =
     let valids = valid-tells p v in
@@ -41,7 +41,7 @@ begins p s v g risk cat a m b n total t =
       };
       day = refl;
       total = t;
-      kept = refl;
+      next = refl;
     }
 
 -- a standing, put together

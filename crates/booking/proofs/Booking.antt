@@ -67,9 +67,9 @@ module _ (ts : List Treaty) (start : Progress) (d₀ cs₀ : List ℕ) (es : Lis
   amounts-now : eventAmounts ts (yearIn (p .records)) x ≡ lineNow .amounts
   amounts-now = ap (λ (y : Year). eventAmounts ts y x) (s .year)
 
-  kept-now : Put d (p .kept) (eventNumbers lineNow) d′ (p′ .kept)
+  kept-now : Put d (p .next) (eventNumbers lineNow) d′ (p′ .next)
   kept-now =
-      subst (λ (a : Amounts). Put d (p .kept) (eventNumbers (record { day = x .day; amounts = a })) d′ (p′ .kept))
+      subst (λ (a : Amounts). Put d (p .next) (eventNumbers (record { day = x .day; amounts = a })) d′ (p′ .next))
       amounts-now (b .kept)
 
   pub one-booked : Stands ts start d₀ cs₀ (es ++ (x ∷ [])) p′ d′ cs′
@@ -91,7 +91,7 @@ module _ (ts : List Treaty) (start : Progress) (d₀ cs₀ : List ℕ) (es : Lis
 
 -- how many numbers were kept of the events booked
 pub kept-of-events : {ts : List Treaty} {start p : Progress} {d₀ cs₀ d cs : List ℕ} {es : List Event}
-    → Stands ts start d₀ cs₀ es p d cs → p .kept ≡ widthOf form.Event * length es
+    → Stands ts start d₀ cs₀ es p d cs → p .next ≡ widthOf form.Event * length es
 kept-of-events {ts} {start} {es = es} s =
     let lines = eventLines ts (yearIn (start .records)) es in
     omega (arith, s .kept .place, events-length lines, event-lines-length ts (yearIn (start .records)) es)

@@ -26,7 +26,7 @@ use Rattle.year.specs.declared.Amounts.{Amounts}
 use Rattle.year.specs.Event.{leftByTreaties, subjectOf, eventAmounts}
 use Rattle.year.specs.Statement.{added, eventNumbers}
 use Rattle.losses.specs.declared.register.ByNumber.{ByNumber}
-use Rattle.losses.specs.declared.cede.Ceded.{Ceded}
+use Rattle.losses.specs.declared.cede.ByTreaties.{ByTreaties}
 use Rattle.losses.specs.Register.{numbered}
 use Rattle.losses.specs.Cede.{lossesFrom, AfterTreaties}
 use Rattle.losses.proofs.Triples.{losses-count}
@@ -71,7 +71,7 @@ module _ (a b : Amounts) (h : RoomForMore a × RoomForMore b) where
   premiums-fit = omega (arith, h .0, h .1)
 
 -- The amounts ys went through the risk layers, which recover m of them.
-module _ (p : Progress) (c : Ceded) (ys : List ℕ) (h : CanEnter p c ys) (risk : TierBorne)
+module _ (p : Progress) (c : ByTreaties) (ys : List ℕ) (h : CanEnter p c ys) (risk : TierBorne)
     (is-risk : risk ≡ tierThrough ys (p .records .risk)) (m : ℕ) (is-m : m ≡ risk .sums .recovered .0) where
   abbrev r : Records
   r = p .records
@@ -136,7 +136,7 @@ module _ (p : Progress) (c : Ceded) (ys : List ℕ) (h : CanEnter p c ys) (risk 
 
       -- The totals are t then, and the numbers of the day's line were kept.
       module _ (day next : ℕ) (d d′ : List ℕ) (t : Amounts) (is-t : t ≡ added (p .total ∷ its ∷ []))
-          (put : Put d (p .kept) (eventNumbers (record { day = day; amounts = its })) d′ next)
+          (put : Put d (p .next) (eventNumbers (record { day = day; amounts = its })) d′ next)
           (ts : List Treaty) (xs : List Loss) (cs cs′ : List ℕ) (a : AfterTreaties ts xs cs cs′ c)
           (is-left : ys ≡ leftOfEach ts [] xs) where
         abbrev e : Event
@@ -171,13 +171,13 @@ module _ (p : Progress) (c : Ceded) (ys : List ℕ) (h : CanEnter p c ys) (risk 
           premium = premiums j;
         }
 
-        pub entered : Booked ts p e d d′ cs cs′ (record {
+        pub as-booked : Booked ts p e d d′ cs cs′ (record {
           records = record { risk = risk .tier; cat = cat .tier };
           day = day;
           total = t;
-          kept = next;
+          next = next;
         })
-        entered = record {
+        as-booked = record {
           year = λ j. record { risk = year-risk j; cat = year-cat j };
           sound = record {
             risk = rw is-risk (sound-tier-through ys (r .risk) (h .records .risk));
@@ -186,7 +186,7 @@ module _ (p : Progress) (c : Ceded) (ys : List ℕ) (h : CanEnter p c ys) (risk 
           day = refl;
           total = is-t ∙ ap (λ (b : Amounts). added (p .total ∷ b ∷ [])) amounts-are;
           kept =
-              subst (λ (b : Amounts). Put d (p .kept) (eventNumbers (record { day = day; amounts = b })) d′ next)
+              subst (λ (b : Amounts). Put d (p .next) (eventNumbers (record { day = day; amounts = b })) d′ next)
               amounts-are put;
           cessions = a .cessions;
         }
@@ -198,7 +198,7 @@ left-count ts earlier (x ∷ xs) = omega (arith, left-count ts (earlier ++ (x �
 
 -- The losses of an event went through their treaties. What is left of each stands at the front of l, which had 64
 -- noughts.
-module _ {p : Progress} {table : ByNumber} {ns cs : List ℕ} (h : CanBook p table ns cs) {c : Ceded} {l cs′ : List ℕ}
+module _ {p : Progress} {table : ByNumber} {ns cs : List ℕ} (h : CanBook p table ns cs) {c : ByTreaties} {l cs′ : List ℕ}
     (k : (ts : List Treaty) → table .places ≡ numbered ts
     → AfterTreaties ts (lossesFrom ns) cs cs′ c
     × (l ≡ sets (replicate 64 0) 0 (leftOfEach ts [] (lossesFrom ns)))) where
@@ -234,7 +234,7 @@ module _ {p : Progress} {table : ByNumber} {ns cs : List ℕ} (h : CanBook p tab
         (all-ceded-and-left (h .cede .treaties) (h .cedes) [] (lossesFrom ns));
     small = rw (known .gross) (gross-small (lossesFrom ns) (h .cede .losses) (h .cede .few));
     totals = h .totals;
-    kept = h .kept;
+    next = h .next;
   }
     where
       known : AfterTreaties (h .cede .treaties) (lossesFrom ns) cs cs′ c

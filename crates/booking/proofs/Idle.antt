@@ -68,15 +68,15 @@ module _ (ts : List Treaty) (p : Progress) (sound : SoundRecords (p .records)) (
       alone m = omega arith
 
   pub idle-booked : (next : ℕ) (d d′ cs : List ℕ)
-      → Put d (p .kept) (eventNumbers (record { day = day; amounts = added [] })) d′ next
-      → Booked ts p idle d d′ cs cs (record { records = p .records; day = day; total = p .total; kept = next })
+      → Put d (p .next) (eventNumbers (record { day = day; amounts = added [] })) d′ next
+      → Booked ts p idle d d′ cs cs (record { records = p .records; day = day; total = p .total; next = next })
   idle-booked next d d′ cs put = record {
     year = year-same;
     sound = sound;
     day = refl;
     total = total-same ∙ ap (λ (b : Amounts). added (p .total ∷ b ∷ [])) amounts-none;
     kept =
-        subst (λ (b : Amounts). Put d (p .kept) (eventNumbers (record { day = day; amounts = b })) d′ next)
+        subst (λ (b : Amounts). Put d (p .next) (eventNumbers (record { day = day; amounts = b })) d′ next)
         amounts-none put;
     cessions = refl;
   }

@@ -15,9 +15,10 @@ ghost use Rattle.losses.specs.Register.{numbered};
 ghost use Rattle.losses.specs.Cede.{lossesFrom, AfterTreaties};
 ghost use Rattle.booking.specs.Records.{yearIn, SoundRecords};
 ghost use Rattle.booking.specs.Progress.{RoomForMore, CanEnter, CanBook, Booked, FirstOf};
+use events::rule;
 use layer::tier::Tier;
 use losses::cede;
-use losses::cede::Ceded;
+use losses::cede::ByTreaties;
 use losses::register::ByNumber;
 use programme::contract::Programme;
 use standings::records;
@@ -69,12 +70,12 @@ pub fn keep_idle(kept: &mut [u64], at: usize, day: u64) -> usize
     keep::keep_event(kept, at, day, no_amounts())
 }
 
-// `kept` is the place after the numbers of the events so far.
+// `next` is the place after the numbers of the events so far.
 pub struct Progress {
     pub records: Records,
     pub day: u64,
     pub total: Amounts,
-    pub kept: usize,
+    pub next: usize,
 }
 
 impl Progress {
@@ -94,7 +95,7 @@ impl Progress {
             },
             day: standing.day,
             total: no_amounts(),
-            kept: 0,
+            next: 0,
         }
     }
 
@@ -113,39 +114,39 @@ impl Progress {
         }
     }
 
-    // The progress after an event of which the treaties cede `ceded` and leave `left`, loss by loss. Each in turn is
+    // The progress after an event, from what the treaties cede of it and what they leave, loss by loss. Each in turn is
     // the subject of the risk layers; what these leave of all is the subject of the catastrophe layers. The numbers of
     // its line are kept.
-    fn enter(self, day: u64, ceded: Ceded, left: &[u64], kept: &mut [u64]) -> Progress
-        requires { ⌜ CanEnter self ceded (now left) ⌝ }
+    fn enter(self, day: u64, by_treaties: ByTreaties, left: &[u64], kept: &mut [u64]) -> Progress
+        requires { ⌜ CanEnter self by_treaties (now left) ⌝ }
         ensures { λ r. ⌜ ((ts : List Treaty) (xs : List Loss) (cs cs′ : List ℕ)
-            → AfterTreaties ts xs cs cs′ ceded → now (left .entry) ≡ leftOfEach ts [] xs
+            → AfterTreaties ts xs cs cs′ by_treaties → now (left .entry) ≡ leftOfEach ts [] xs
             → Booked ts self (record { day = day; losses = xs }) (now (kept .entry)) (now (kept .exit)) cs cs′ r) ⌝ }
     {
         let after_risk = self.records.risk.bear(left);
         let by_risk = after_risk.sums.recovered.cents();
-        let subject = ceded.gross - ceded.ceded - by_risk;
+        let subject = by_treaties.gross - by_treaties.ceded - by_risk;
         let after_cat = self.records.cat.bear(&[subject]);
         let by_cat = after_cat.sums.recovered.cents();
         let net = subject - by_cat;
         let premium = after_risk.sums.premium.cents() + after_cat.sums.premium.cents();
         let amounts = Amounts {
-            gross: ceded.gross,
-            ceded: ceded.ceded,
+            gross: by_treaties.gross,
+            ceded: by_treaties.ceded,
             risk: by_risk,
             cat: by_cat,
             net,
             premium,
         };
         let total = total_with(self.total, amounts);
-        let next = keep::keep_event(kept, self.kept, day, amounts);
+        let next = keep::keep_event(kept, self.next, day, amounts);
         let risk = after_risk.tier;
         let cat = after_cat.tier;
         Progress {
             records: Records { risk, cat },
             day,
             total,
-            kept: next,
+            next,
         }
     }
 
@@ -164,9 +165,9 @@ impl Progress {
             → Booked ts self (record { day = day; losses = lossesFrom (now (losses .entry)) })
             (now (kept .entry)) (now (kept .exit)) (now (cessions .entry)) (now (cessions .exit)) r) ⌝ }
     {
-        let mut left = [0u64; 64];
-        let ceded = cede::cede_each(table, losses, &mut left, cessions);
+        let mut left = [0u64; rule::LOSSES];
+        let by_treaties = cede::cede_each(table, losses, &mut left, cessions);
         let count = losses.len() / 3;
-        self.enter(day, ceded, &left[..count], kept)
+        self.enter(day, by_treaties, &left[..count], kept)
     }
 }

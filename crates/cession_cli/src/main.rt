@@ -1,6 +1,7 @@
 // The program: the table from programme.txt in the current folder, the events from standard input, and on standard
 // output the statement of a year opened for them, or the refusal.
 use engine::run;
+use events::rule;
 use libc::STDIN_FILENO;
 use libc::STDOUT_FILENO;
 use programme::contract::Programme;
@@ -24,7 +25,7 @@ fn refuse(refusal: u64, number: u64) {
 
 // A table of 8,192 bytes is accepted: one byte more is read, so that a longer one is refused and not cut.
 fn run_file(file: i32) {
-    let mut table = [0u8; 8193];
+    let mut table = [0u8; table::TABLE_BYTES + 1];
     let text = input::fill(file, &mut table);
     libc::close(file);
     if text.failed {
@@ -51,7 +52,7 @@ fn run_table(table: &[u8]) {
 
 // Events of 65,536 bytes are accepted: one byte more is read here too.
 fn run_year(programme: Programme, standing: Standing) {
-    let mut events = [0u8; 65537];
+    let mut events = [0u8; rule::EVENTS_BYTES + 1];
     let text = input::fill(STDIN_FILENO, &mut events);
     if text.failed {
         refuse(0, 0);

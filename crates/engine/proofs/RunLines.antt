@@ -44,8 +44,8 @@ use Rattle.booking.specs.declared.progress.Progress.{Progress}
 use Rattle.booking.specs.Records.{yearIn, SoundRecords}
 use Rattle.booking.specs.Progress.{FirstOf, Stands}
 use Rattle.booking.proofs.Booking.{kept-of-events}
-use Rattle.lines.specs.declared.pass.Passed.{Passed}
-use Rattle.lines.specs.Pass.{CanPass, passIs}
+use Rattle.events_pass.specs.declared.pass.Passed.{Passed}
+use Rattle.events_pass.specs.Pass.{CanPass, passIs}
 use Rattle.engine.specs.declared.run.Ran.{Ran}
 use Rattle.engine.specs.Run.{ranOf, runLines, restNumbers, CanKeep, CanRun, PlacesFor}
 use Rattle.engine.proofs.Stating.{through-length, all-kept}
@@ -97,7 +97,7 @@ module _ {p : Programme} {s : Standing} {text d₀ : List ℕ} (can : CanRun 655
       by-number = m ∙ ap registerOf (sym same-treaties);
       records = f .sound;
       total = f .total;
-      kept = f .kept;
+      next = f .next;
       cessions = refl;
     }
 
@@ -156,8 +156,8 @@ module _ {p : Programme} {s : Standing} {text d₀ : List ℕ} (can : CanRun 655
         records-sound = a .stands .sound
 
         -- the rest of the statement's numbers was kept
-        module _ (d′ : List ℕ) (end : ℕ) (k : Put d (r .progress .kept) (restNumbers ts cs (r .progress)) d′ end)
-            (h : end ≤ r .progress .kept + restWidth) where
+        module _ (d′ : List ℕ) (end : ℕ) (k : Put d (r .progress .next) (restNumbers ts cs (r .progress)) d′ end)
+            (h : end ≤ r .progress .next + restWidth) where
           abbrev shown : Statement
           shown = statementOf ts (yearIn (start .records)) (a .es)
 
@@ -184,7 +184,7 @@ module _ {p : Programme} {s : Standing} {text d₀ : List ℕ} (can : CanRun 655
           -- the counts of its lines
           abbrev counts : Counts
           counts = record {
-            events = r .progress .kept / widthOf form.Event;
+            events = r .progress .next / widthOf form.Event;
             treaties = p .treaties .count;
             risk = p .risk .count;
             cat = p .cat .count;

@@ -113,6 +113,6 @@ module _ (ts : List Treaty) (r : Numbered 0 ts) (z : Each (λ (t : Treaty). t .n
       λ i. treaties i ++ (risk i ++ (cat i ++ amounts i))
 
   -- all the numbers of the statement were kept
-  pub all-kept : {d′ : List ℕ} {end : ℕ} → Put d (p .kept) (restNumbers ts cs p) d′ end
+  pub all-kept : {d′ : List ℕ} {end : ℕ} → Put d (p .next) (restNumbers ts cs p) d′ end
       → Put d₀ 0 (numbersOf (linesShown shown)) d′ end
   all-kept q = rw (parts shown) (put-append (s .kept) (rw rest-is at q))

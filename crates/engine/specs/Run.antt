@@ -55,7 +55,7 @@ pub record CanKeep (t : Treaties) (cs : List ℕ) (p : Progress) : Type 0 where
   pub count : t .count ≤ 8
   pub numbers : Each (λ (x : Treaty). x .number < length cs) (treatiesIn t)
   pub records : SoundRecords (p .records)
-  pub place : p .kept < 2 ^ 31
+  pub place : p .next < 2 ^ 31
 
 -- a run that is past 6, 8 and 9, of a text of at most n bytes
 pub record CanRun (n : ℕ) (p : Programme) (s : Standing) (text : List ℕ) : Type 0 where

@@ -13,7 +13,8 @@ ghost use Rattle.statement.specs.Shows.{Fits, Shows};
 ghost use Rattle.engine.specs.Run.{ranOf, writtenRan, RanAs, runLines, restNumbers, CanKeep, CanRun, PlacesFor};
 use answer::Answer;
 use booking::progress::Progress;
-use lines::pass;
+use events::rule;
+use events_pass::pass;
 use losses::register;
 use programme::contract::Programme;
 use programme::contract::Treaties;
@@ -23,6 +24,11 @@ use statement::print;
 use statement::print::Counts;
 use statement::row;
 use year::Standing;
+
+// A short events text and a medium one have at most so many bytes.
+const SHORT: usize = 1024;
+
+const MEDIUM: usize = 8192;
 
 // What a run gives back: its answer, and the standing after it, which is the one lent where it is refused.
 pub struct Ran {
@@ -56,12 +62,12 @@ fn written(bytes: usize, after: Standing) -> Ran
 // The numbers of the lines after the events': of treaties, risk layers, catastrophe layers and totals.
 fn keep_rest(kept: &mut [u64], treaties: Treaties, cessions: &[u64], progress: Progress) -> usize
     requires { ⌜ CanKeep treaties (now cessions) progress ⌝ }
-    ensures { λ r. ⌜ Put (now (kept .entry)) (progress .kept)
+    ensures { λ r. ⌜ Put (now (kept .entry)) (progress .next)
         (restNumbers (treatiesIn treaties) (now (cessions .entry)) progress) (now (kept .exit)) r
-        × (r ≤ progress .kept + restWidth) ⌝ }
+        × (r ≤ progress .next + restWidth) ⌝ }
 {
     let records = progress.records;
-    let risk = keep::keep_treaties(kept, progress.kept, treaties, cessions);
+    let risk = keep::keep_treaties(kept, progress.next, treaties, cessions);
     let cat = keep::keep_layers(kept, risk, records.risk);
     let last = keep::keep_layers(kept, cat, records.cat);
     keep::keep_total(kept, last, progress.total)
@@ -81,7 +87,7 @@ fn write_measured(
 {
     let needed = print::measure(numbers, counts);
     if buffer.len() < needed {
-        return refused(7, needed as u64, lent);
+        return refused(answer::BUFFER_TOO_SHORT, needed as u64, lent);
     }
     print::put_statement(buffer, numbers, counts);
     written(needed, after)
@@ -95,7 +101,7 @@ fn write(numbers: &[u64], counts: Counts, lent: Standing, after: Standing, buffe
         → RanAs (statementFitted (length (now (buffer .entry))) t after) lent (now (buffer .entry)) (now (buffer .exit)) r) ⌝ }
 {
     let lines = counts.events + counts.treaties + counts.risk + counts.cat + 1;
-    if 200 * lines <= buffer.len() {
+    if print::LONGEST_LINE * lines <= buffer.len() {
         let length = print::put_statement(buffer, numbers, counts);
         return written(length, after);
     }
@@ -125,7 +131,7 @@ fn through(
     }
     let progress = passed.progress;
     let counts = Counts {
-        events: progress.kept / row::EVENT,
+        events: progress.next / row::EVENT,
         treaties: treaties.count,
         risk: programme.risk.count,
         cat: programme.cat.count,
@@ -142,7 +148,7 @@ fn short(programme: Programme, standing: Standing, events: &[u8], buffer: &mut [
     ensures { λ r. ⌜ RanAs (runLines programme standing (now (events .entry)) (length (now (buffer .entry))))
         standing (now (buffer .entry)) (now (buffer .exit)) r ⌝ }
 {
-    let mut kept = [0u64; row::EVENT * 1024 / 10 + row::REST + 1];
+    let mut kept = [0u64; row::EVENT * SHORT / 10 + row::REST + 1];
     through(programme, standing, events, buffer, &mut kept)
 }
 
@@ -152,7 +158,7 @@ fn medium(programme: Programme, standing: Standing, events: &[u8], buffer: &mut 
     ensures { λ r. ⌜ RanAs (runLines programme standing (now (events .entry)) (length (now (buffer .entry))))
         standing (now (buffer .entry)) (now (buffer .exit)) r ⌝ }
 {
-    let mut kept = [0u64; row::EVENT * 8192 / 10 + row::REST + 1];
+    let mut kept = [0u64; row::EVENT * MEDIUM / 10 + row::REST + 1];
     through(programme, standing, events, buffer, &mut kept)
 }
 
@@ -162,7 +168,7 @@ fn long(programme: Programme, standing: Standing, events: &[u8], buffer: &mut [u
     ensures { λ r. ⌜ RanAs (runLines programme standing (now (events .entry)) (length (now (buffer .entry))))
         standing (now (buffer .entry)) (now (buffer .exit)) r ⌝ }
 {
-    let mut kept = [0u64; row::EVENT * 65536 / 10 + row::REST + 1];
+    let mut kept = [0u64; row::EVENT * rule::EVENTS_BYTES / 10 + row::REST + 1];
     through(programme, standing, events, buffer, &mut kept)
 }
 
@@ -181,10 +187,10 @@ fn placed(programme: Programme, standing: Standing, events: &[u8], buffer: &mut 
             return placed(programme, standing, events, &mut buffer[..0]);
         }
     }
-    if events.len() <= 1024 {
+    if events.len() <= SHORT {
         return short(programme, standing, events, buffer);
     }
-    if events.len() <= 8192 {
+    if events.len() <= MEDIUM {
         return medium(programme, standing, events, buffer);
     }
     long(programme, standing, events, buffer)
@@ -199,13 +205,13 @@ pub fn run(programme: Programme, standing: Standing, events: &[u8], buffer: &mut
         (now (buffer .entry))) ⌝ }
 {
     if valid::holds(programme) {} else {
-        return refused(6, 0, standing);
+        return refused(valid::NOT_A_PROGRAMME, 0, standing);
     }
     if standings::passes(programme, standing) {} else {
-        return refused(8, 0, standing);
+        return refused(standings::NOT_A_STANDING, 0, standing);
     }
-    if 65536 < events.len() {
-        return refused(9, 0, standing);
+    if rule::EVENTS_BYTES < events.len() {
+        return refused(rule::EVENTS_TOO_LONG, 0, standing);
     }
     placed(programme, standing, events, buffer)
 }

@@ -6,7 +6,7 @@ use Prim.Native.Nat.{ℕ, _+_, _^_, _≤_, _<_}
 use borrow.Author.Tests.{lt-ltb, le-ltb}
 use Rattle.programme.specs.Ranges.{outside}
 use Rattle.treaty.specs.declared.Loss.{Loss}
-use Rattle.events.specs.Rules.{lossOutside, faultOf}
+use Rattle.events.specs.Rules.{lossOutside, lowestFault}
 
 -- the numbers of a loss form, added up
 pub loss-outside : (x : Loss) (a b c : ℕ) → a ≡ outside 0 8 (x .treaty) → b ≡ outside 1 (10 ^ 13) (x .maximum)
@@ -16,22 +16,22 @@ loss-outside x a b c p q r = rw (p, q, r)
 
 -- the lowest fault, one test after the other
 module _ (outside count day before lacking : ℕ) where
-  pub fault-11 : 0 < outside → 11 ≡ faultOf outside count day before lacking
+  pub fault-11 : 0 < outside → 11 ≡ lowestFault outside count day before lacking
   fault-11 h = sym (rw (lt-ltb 0 outside h))
 
   module _ (a : outside ≤ 0) where
-    pub fault-12 : 64 < count → 12 ≡ faultOf outside count day before lacking
+    pub fault-12 : 64 < count → 12 ≡ lowestFault outside count day before lacking
     fault-12 h = sym (rw (le-ltb 0 outside a, lt-ltb 64 count h))
 
     module _ (b : count ≤ 64) where
-      pub fault-13 : day < before → 13 ≡ faultOf outside count day before lacking
+      pub fault-13 : day < before → 13 ≡ lowestFault outside count day before lacking
       fault-13 h = sym (rw (le-ltb 0 outside a, le-ltb 64 count b, lt-ltb day before h))
 
       module _ (c : before ≤ day) where
-        pub fault-14 : 0 < lacking → 14 ≡ faultOf outside count day before lacking
+        pub fault-14 : 0 < lacking → 14 ≡ lowestFault outside count day before lacking
         fault-14 h = sym (rw (le-ltb 0 outside a, le-ltb 64 count b, le-ltb day before c, lt-ltb 0 lacking h))
 
-        pub faultless : lacking ≤ 0 → 0 ≡ faultOf outside count day before lacking
+        pub faultless : lacking ≤ 0 → 0 ≡ lowestFault outside count day before lacking
         faultless h = sym (rw (le-ltb 0 outside a, le-ltb 64 count b, le-ltb day before c, le-ltb 0 lacking h))
 
 -- a line that is closed has the fault of its event form

@@ -32,10 +32,10 @@ lacking ts xs = sumOf (λ (x : Loss). cond (inTable ts (x .treaty)) 0 1) xs
 
 -- 11, a number outside its range; 12, over 64 losses; 13, a day below the line before; 14, a treaty other than 0 that
 -- the table lacks. The lowest number decides; 0 is no fault.
-abbrev pub faultOf : (outside count day before lacking : ℕ) → ℕ
-faultOf outside count day before lacking =
-    cond (ltb 0 outside) 11 (cond (ltb 64 count) 12 (cond (ltb day before) 13 (cond (ltb 0 lacking) 14 0)))
+abbrev pub lowestFault : (out count day before lacks : ℕ) → ℕ
+lowestFault out count day before lacks =
+    cond (ltb 0 out) 11 (cond (ltb 64 count) 12 (cond (ltb day before) 13 (cond (ltb 0 lacks) 14 0)))
 
 -- the fault of an event after the day `before`, under the table's treaties
 unfoldable pub eventFault : List Treaty → (before : ℕ) → Event → ℕ
-eventFault ts before e = faultOf (eventOutside e) (length (e .losses)) (e .day) before (lacking ts (e .losses))
+eventFault ts before e = lowestFault (eventOutside e) (length (e .losses)) (e .day) before (lacking ts (e .losses))

@@ -13,7 +13,7 @@ use Rattle.treaty.specs.Treaty.{lossOf}
 use Rattle.treaty.specs.Losses.{grossOf, cededIn, cededOfEach}
 use Rattle.treaty.specs.Ranges.{TermsInRange, LossInRange}
 use Rattle.losses.specs.declared.register.ByNumber.{ByNumber}
-use Rattle.losses.specs.declared.cede.Ceded.{Ceded}
+use Rattle.losses.specs.declared.cede.ByTreaties.{ByTreaties}
 use Rattle.losses.specs.Register.{numbered}
 
 -- numbers as losses, three a loss: T, E, g
@@ -31,7 +31,7 @@ cededAdded ts earlier cs (x ∷ xs) =
 
 -- An event's losses xs went through the treaties ts: c is what they come to and what is ceded. What each treaty cedes
 -- was added to the amount in its place of cs, which are cs′ then.
-pub record AfterTreaties (ts : List Treaty) (xs : List Loss) (cs cs′ : List ℕ) (c : Ceded) : Type 0 where
+pub record AfterTreaties (ts : List Treaty) (xs : List Loss) (cs cs′ : List ℕ) (c : ByTreaties) : Type 0 where
   pub gross : c .gross ≡ grossOf xs
   pub ceded : c .ceded ≡ total (cededOfEach ts [] xs)
   pub cessions : cs′ ≡ cededAdded ts [] cs xs

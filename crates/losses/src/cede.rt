@@ -13,7 +13,7 @@ use crate::register::ByNumber;
 use treaty::Loss;
 
 // What an event's losses come to under the treaties: their amounts and what is ceded of them, added.
-pub struct Ceded {
+pub struct ByTreaties {
     pub gross: u64,
     pub ceded: u64,
 }
@@ -33,7 +33,12 @@ fn loss_at(losses: &[u64], i: usize) -> Loss
 
 // The losses of an event in turn, three numbers each (T, E, g), through their treaties. What is left of each goes to
 // `left`; at place T `cessions` gains what treaty T cedes.
-pub fn cede_each(table: ByNumber, losses: &[u64], left: &mut [u64], cessions: &mut [u64]) -> Ceded
+pub fn cede_each(
+    table: ByNumber,
+    losses: &[u64],
+    left: &mut [u64],
+    cessions: &mut [u64],
+) -> ByTreaties
     requires { ⌜ CanCede table (now losses) (now cessions)
         × (length (lossesFrom (now losses)) ≤ length (now left)) ⌝ }
     ensures { λ r. ⌜ ((ts : List Treaty) → table .places ≡ numbered ts
@@ -58,5 +63,5 @@ pub fn cede_each(table: ByNumber, losses: &[u64], left: &mut [u64], cessions: &m
         ceded += cession.ceded;
         i += 1;
     }
-    Ceded { gross, ceded }
+    ByTreaties { gross, ceded }
 }

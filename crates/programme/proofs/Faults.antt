@@ -12,10 +12,10 @@ use Rattle.layer.specs.declared.terms.Terms.{Terms}
 use Rattle.programme.specs.declared.contract.Contract.{Contract}
 use Rattle.programme.specs.declared.contract.Contract.the-variants.{Proportional, Risk, Cat}
 use Rattle.programme.specs.declared.rule.Last.{Last}
-use Rattle.programme.specs.declared.rule.Progress.{Progress}
+use Rattle.programme.specs.declared.rule.Before.{Before}
 use Rattle.programme.specs.Ranges.{treatyOutside, termsOutside}
 use Rattle.programme.specs.Rules.{treatyFault, layerFault, faultAfter}
-use Rattle.programme.specs.LineByLine.{nextOf, progressAfter}
+use Rattle.programme.specs.LineByLine.{nextOf, beforeNext}
 use Rattle.programme.proofs.Bounds.{band-end}
 
 module _ (later before : ℕ) (t : Treaty) (n : ℕ) (e : n ≡ treatyOutside t) where
@@ -62,7 +62,7 @@ module _ (later : ℕ) (before : Last) (l : Terms) (n : ℕ) (e : n ≡ termsOut
         layer-fine h = rw (← e) (simp (le-ltb _ _ z, le-ltb _ _ o, lt-leb _ _ f, le-ltb _ _ h))
 
 -- the fault of a contract, by its kind
-module _ (p : Progress) (x : Contract) (r : ℕ) where
+module _ (p : Before) (x : Contract) (r : ℕ) where
   pub treaty-faults : (t : Treaty) → x ≡ Proportional t
       → r ≡ treatyFault (p .risk .count + p .cat .count) (p .treaties .figure) t → r ≡ faultAfter p x
   treaty-faults t e h = rw e h
@@ -111,7 +111,7 @@ layer-faultless later before l z =
     (λ f. absurd (omega (arith, layer-ninth later before l (termsOutside l) refl h k f)))))
 
 -- the end of the band of a layer without fault fits a word, and what stands before the next line
-module _ (p : Progress) (x : Contract) (z : faultAfter p x ≡ 0) where
+module _ (p : Before) (x : Contract) (z : faultAfter p x ≡ 0) where
   band-fits : (later : ℕ) (before : Last) (l : Terms) → layerFault later before l ≡ 0
       → Fits w64 (l .attachment + l .limit)
   band-fits later before l f = omega (arith, band-end l (layer-faultless later before l f .inside))
@@ -122,15 +122,15 @@ module _ (p : Progress) (x : Contract) (z : faultAfter p x ≡ 0) where
   pub cat-end : (l : Terms) → x ≡ Cat l → Fits w64 (l .attachment + l .limit)
   cat-end l e = band-fits 0 (p .cat) l (sym (ap (faultAfter p) e) ∙ z)
 
-module _ (p : Progress) (x : Contract) (n : Last) where
+module _ (p : Before) (x : Contract) (n : Last) where
   pub treaty-after : (t : Treaty) → x ≡ Proportional t → n ≡ nextOf (p .treaties) (t .number)
-      → record { treaties = n; risk = p .risk; cat = p .cat } ≡ progressAfter p x
+      → record { treaties = n; risk = p .risk; cat = p .cat } ≡ beforeNext p x
   treaty-after t e h = rw (e, h)
 
   pub risk-after : (l : Terms) → x ≡ Risk l → n ≡ nextOf (p .risk) (l .attachment + l .limit)
-      → record { treaties = p .treaties; risk = n; cat = p .cat } ≡ progressAfter p x
+      → record { treaties = p .treaties; risk = n; cat = p .cat } ≡ beforeNext p x
   risk-after l e h = rw (e, h)
 
   pub cat-after : (l : Terms) → x ≡ Cat l → n ≡ nextOf (p .cat) (l .attachment + l .limit)
-      → record { treaties = p .treaties; risk = p .risk; cat = n } ≡ progressAfter p x
+      → record { treaties = p .treaties; risk = p .risk; cat = n } ≡ beforeNext p x
   cat-after l e h = rw (e, h)

@@ -23,10 +23,10 @@ abbrev pub noContracts : Contracts
 noContracts = record { treaties = []; risk = []; cat = [] }
 
 -- contracts with one more of its kind
-abbrev pub entered : Contracts → Contract → Contracts
-entered c (Proportional t) = record { treaties = c .treaties ++ (t ∷ []); risk = c .risk; cat = c .cat }
-entered c (Risk l) = record { treaties = c .treaties; risk = c .risk ++ (l ∷ []); cat = c .cat }
-entered c (Cat l) = record { treaties = c .treaties; risk = c .risk; cat = c .cat ++ (l ∷ []) }
+abbrev pub withContract : Contracts → Contract → Contracts
+withContract c (Proportional t) = record { treaties = c .treaties ++ (t ∷ []); risk = c .risk; cat = c .cat }
+withContract c (Risk l) = record { treaties = c .treaties; risk = c .risk ++ (l ∷ []); cat = c .cat }
+withContract c (Cat l) = record { treaties = c .treaties; risk = c .risk; cat = c .cat ++ (l ∷ []) }
 
 -- all of them in the table's order: treaties first, then risk layers, then cat layers
 abbrev pub inOrder : Contracts → List Contract

@@ -4,11 +4,11 @@ use Prim.Native.Nat.{ℕ, _+_, _≤_}
 use Rattle.programme.specs.declared.contract.Contract.{Contract}
 use Rattle.programme.specs.declared.contract.Contract.the-variants.{Proportional, Risk, Cat}
 use Rattle.programme.specs.declared.rule.Last.{Last}
-use Rattle.programme.specs.declared.rule.Progress.{Progress}
+use Rattle.programme.specs.declared.rule.Before.{Before}
 use Rattle.programme.specs.Rules.{bandEnd}
 
 -- how many of a contract's kind stand before it: its place
-abbrev pub placeAfter : Progress → Contract → ℕ
+abbrev pub placeAfter : Before → Contract → ℕ
 placeAfter p (Proportional t) = p .treaties .count
 placeAfter p (Risk l) = p .risk .count
 placeAfter p (Cat l) = p .cat .count
@@ -18,13 +18,13 @@ abbrev pub nextOf : Last → ℕ → Last
 nextOf last figure = record { count = last .count + 1; figure = figure }
 
 -- what stands before the line after a contract's
-abbrev pub progressAfter : Progress → Contract → Progress
-progressAfter p (Proportional t) = record { treaties = nextOf (p .treaties) (t .number); risk = p .risk; cat = p .cat }
-progressAfter p (Risk l) = record { treaties = p .treaties; risk = nextOf (p .risk) (bandEnd l); cat = p .cat }
-progressAfter p (Cat l) = record { treaties = p .treaties; risk = p .risk; cat = nextOf (p .cat) (bandEnd l) }
+abbrev pub beforeNext : Before → Contract → Before
+beforeNext p (Proportional t) = record { treaties = nextOf (p .treaties) (t .number); risk = p .risk; cat = p .cat }
+beforeNext p (Risk l) = record { treaties = p .treaties; risk = nextOf (p .risk) (bandEnd l); cat = p .cat }
+beforeNext p (Cat l) = record { treaties = p .treaties; risk = p .risk; cat = nextOf (p .cat) (bandEnd l) }
 
 -- no more than eight of a kind stand before a line
-pub record EightAtMost (p : Progress) : Type 0 where
+pub record EightAtMost (p : Before) : Type 0 where
   pub treaties : p .treaties .count ≤ 8
   pub risk : p .risk .count ≤ 8
   pub cat : p .cat .count ≤ 8

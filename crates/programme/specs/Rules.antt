@@ -11,7 +11,7 @@ use Rattle.layer.specs.declared.terms.Terms.{Terms}
 use Rattle.programme.specs.declared.contract.Contract.{Contract}
 use Rattle.programme.specs.declared.contract.Contract.the-variants.{Proportional, Risk, Cat}
 use Rattle.programme.specs.declared.rule.Last.{Last}
-use Rattle.programme.specs.declared.rule.Progress.{Progress}
+use Rattle.programme.specs.declared.rule.Before.{Before}
 use Rattle.programme.specs.Contracts.{Contracts}
 use Rattle.programme.specs.Ranges.{treatyOutside, termsOutside}
 
@@ -28,8 +28,8 @@ abbrev pub lastOf : {A : Type 0} → (A → ℕ) → List A → Last
 lastOf figure xs = record { count = length xs; figure = lastBy figure 0 xs }
 
 -- of each kind
-abbrev pub progressOf : Contracts → Progress
-progressOf c = record {
+abbrev pub beforeOf : Contracts → Before
+beforeOf c = record {
   treaties = lastOf treatyNumber (c .treaties);
   risk = lastOf bandEnd (c .risk);
   cat = lastOf bandEnd (c .cat);
@@ -49,11 +49,11 @@ layerFault later before l =
     (cond (ltb 0 later || leb 8 (before .count)) 4 (cond (ltb (l .attachment) (before .figure)) 5 0))
 
 -- the fault of a contract's line, from what stands before it
-abbrev pub faultAfter : Progress → Contract → ℕ
+abbrev pub faultAfter : Before → Contract → ℕ
 faultAfter p (Proportional t) = treatyFault (p .risk .count + p .cat .count) (p .treaties .figure) t
 faultAfter p (Risk l) = layerFault (p .cat .count) (p .risk) l
 faultAfter p (Cat l) = layerFault 0 (p .cat) l
 
 -- the same after the contracts c
 abbrev pub faultOf : Contracts → Contract → ℕ
-faultOf c x = faultAfter (progressOf c) x
+faultOf c x = faultAfter (beforeOf c) x

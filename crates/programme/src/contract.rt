@@ -4,6 +4,9 @@ ghost use Rattle.programme.specs.Contracts.{noTreaty, noTerms, noContrac
 use layer::terms::Terms;
 use treaty::Treaty;
 
+// The places for treaties, and for the layers of each tier.
+pub const PLACES: usize = 8;
+
 // The first `count` places are used; in a valid programme every number of the others is 0.
 #[repr(C)]
 pub struct Treaties {

@@ -6,6 +6,24 @@ ghost use Rattle.programme.specs.Ranges.{termsOutside, treatyNotZero, te
 use layer::terms::Terms;
 use treaty::Treaty;
 
+// The largest numbers of a table: treaties, shares of the whole and rates in basis points, amounts, lines, yearly
+// deductibles, reinstatements and reinstatement premiums.
+pub const TREATIES: u64 = 8;
+
+const WHOLE: u64 = 10000;
+
+const RATE: u64 = 20000;
+
+pub const AMOUNT: u64 = 10000000000000;
+
+const LINES: u64 = 100;
+
+const DEDUCTIBLE: u64 = 1000000000000000;
+
+const REINSTATEMENTS: u64 = 20;
+
+const PREMIUM: u64 = 1000000000000;
+
 // 1 for a number outside its range, 0 for one within it.
 pub fn outside(low: u64, high: u64, n: u64) -> u64
     ensures { λ r. ⌜ (r ≡ outside low high n) × (r ≤ 1) ⌝ }
@@ -23,10 +41,10 @@ pub fn outside(low: u64, high: u64, n: u64) -> u64
 fn quota_outside(t: Treaty) -> u64
     ensures { λ r. ⌜ r ≡ quotaOutside t ⌝ }
 {
-    outside(1, 8, t.number)
-        + outside(0, 10000, t.cede)
-        + outside(0, 10000000000000, t.capacity)
-        + outside(0, 10000000000000, t.limit)
+    outside(1, TREATIES, t.number)
+        + outside(0, WHOLE, t.cede)
+        + outside(0, AMOUNT, t.capacity)
+        + outside(0, AMOUNT, t.limit)
         + outside(0, 0, t.retention)
         + outside(0, 0, t.lines)
 }
@@ -35,10 +53,10 @@ fn quota_outside(t: Treaty) -> u64
 fn surplus_outside(t: Treaty) -> u64
     ensures { λ r. ⌜ r ≡ surplusOutside t ⌝ }
 {
-    outside(1, 8, t.number)
-        + outside(0, 10000000000000, t.retention)
-        + outside(0, 100, t.lines)
-        + outside(0, 10000000000000, t.limit)
+    outside(1, TREATIES, t.number)
+        + outside(0, AMOUNT, t.retention)
+        + outside(0, LINES, t.lines)
+        + outside(0, AMOUNT, t.limit)
         + outside(0, 0, t.cede)
         + outside(0, 0, t.capacity)
 }
@@ -59,13 +77,13 @@ pub fn treaty_outside(t: Treaty) -> u64
 pub fn terms_outside(l: Terms) -> u64
     ensures { λ r. ⌜ r ≡ termsOutside l ⌝ }
 {
-    outside(0, 10000000000000, l.attachment)
-        + outside(1, 10000000000000, l.limit)
-        + outside(0, 1000000000000000, l.deductible)
-        + outside(0, 20, l.reinstatements)
-        + outside(0, 20000, l.rate)
-        + outside(0, 1000000000000, l.premium)
-        + outside(0, 10000, l.placed)
+    outside(0, AMOUNT, l.attachment)
+        + outside(1, AMOUNT, l.limit)
+        + outside(0, DEDUCTIBLE, l.deductible)
+        + outside(0, REINSTATEMENTS, l.reinstatements)
+        + outside(0, RATE, l.rate)
+        + outside(0, PREMIUM, l.premium)
+        + outside(0, WHOLE, l.placed)
 }
 
 // How many numbers of a treaty's place are not 0.

@@ -3,12 +3,22 @@ ghost use mathlib.Core.Path.{_≡_};
 ghost use Prim.Native.Nat.{_≤_};
 ghost use Rattle.programme.specs.Contracts.{noContracts};
 ghost use Rattle.programme.specs.Rules.{treatyFault, layerFault, faultAfter};
-ghost use Rattle.programme.specs.Rules.{progressOf};
-ghost use Rattle.programme.specs.LineByLine.{placeAfter, progressAfter, nextOf, EightAtMost};
+ghost use Rattle.programme.specs.Rules.{beforeOf};
+ghost use Rattle.programme.specs.LineByLine.{placeAfter, beforeNext, nextOf, EightAtMost};
 use crate::contract::Contract;
+use crate::contract::PLACES;
 use crate::range;
 use layer::terms::Terms;
 use treaty::Treaty;
+
+// A number outside its range.
+const TABLE_NUMBER_OUT_OF_RANGE: u64 = 3;
+
+// A kind out of order, a ninth layer of a tier, or a treaty's number not above the one before.
+const TABLE_OUT_OF_ORDER: u64 = 4;
+
+// An attachment below the end of the band before.
+const BANDS_OVERLAP: u64 = 5;
 
 // How many of a kind stand before a line, and the last one's number or end of band, 0 without one.
 pub struct Last {
@@ -17,7 +27,7 @@ pub struct Last {
 }
 
 // What stands before a line.
-pub struct Progress {
+pub struct Before {
     pub treaties: Last,
     pub risk: Last,
     pub cat: Last,
@@ -28,13 +38,13 @@ fn treaty_fault(later: usize, before: u64, t: Treaty) -> u64
     ensures { λ r. ⌜ r ≡ treatyFault later before t ⌝ }
 {
     if 0 < range::treaty_outside(t) {
-        return 3;
+        return TABLE_NUMBER_OUT_OF_RANGE;
     }
     if 0 < later {
-        return 4;
+        return TABLE_OUT_OF_ORDER;
     }
     if t.number <= before {
-        return 4;
+        return TABLE_OUT_OF_ORDER;
     }
     0
 }
@@ -44,16 +54,16 @@ fn layer_fault(later: usize, before: Last, l: Terms) -> u64
     ensures { λ r. ⌜ r ≡ layerFault later before l ⌝ }
 {
     if 0 < range::terms_outside(l) {
-        return 3;
+        return TABLE_NUMBER_OUT_OF_RANGE;
     }
     if 0 < later {
-        return 4;
+        return TABLE_OUT_OF_ORDER;
     }
-    if 8 <= before.count {
-        return 4;
+    if PLACES <= before.count {
+        return TABLE_OUT_OF_ORDER;
     }
     if l.attachment < before.figure {
-        return 5;
+        return BANDS_OVERLAP;
     }
     0
 }
@@ -71,16 +81,16 @@ impl Last {
     }
 }
 
-impl Progress {
+impl Before {
     // Before the first line.
-    pub fn first() -> Progress
-        ensures { λ r. ⌜ r ≡ progressOf noContracts ⌝ }
+    pub fn first() -> Before
+        ensures { λ r. ⌜ r ≡ beforeOf noContracts ⌝ }
     {
         let none = Last {
             count: 0,
             figure: 0,
         };
-        Progress {
+        Before {
             treaties: none,
             risk: none,
             cat: none,
@@ -119,25 +129,25 @@ impl Progress {
     }
 
     // What stands before the line after a contract's that is without fault.
-    pub fn after(self, contract: Contract) -> Progress
+    pub fn after(self, contract: Contract) -> Before
         requires { ⌜ EightAtMost self × (faultAfter self contract ≡ 0) ⌝ }
-        ensures { λ r. ⌜ r ≡ progressAfter self contract ⌝ }
+        ensures { λ r. ⌜ r ≡ beforeNext self contract ⌝ }
     {
         let treaties = self.treaties;
         let risk = self.risk;
         let cat = self.cat;
         match contract {
-            Contract::Proportional(t) => Progress {
+            Contract::Proportional(t) => Before {
                 treaties: treaties.next(t.number),
                 risk,
                 cat,
             },
-            Contract::Risk(l) => Progress {
+            Contract::Risk(l) => Before {
                 treaties,
                 risk: risk.next(l.attachment + l.limit),
                 cat,
             },
-            Contract::Cat(l) => Progress {
+            Contract::Cat(l) => Before {
                 treaties,
                 risk,
                 cat: cat.next(l.attachment + l.limit),

@@ -7,11 +7,15 @@ ghost use Rattle.programme.specs.Rules.{treatyNumber, bandEnd};
 ghost use Rattle.programme.specs.Valid.{treatyPasses, layerPasses, treatyUnused, termsUnused};
 ghost use Rattle.programme.specs.Valid.{validTreaties, validLayers, valid};
 use crate::contract::Layers;
+use crate::contract::PLACES;
 use crate::contract::Programme;
 use crate::contract::Treaties;
 use crate::range;
 use layer::terms::Terms;
 use treaty::Treaty;
+
+// The refusal of a programme that no table text reads to.
+pub const NOT_A_PROGRAMME: u64 = 6;
 
 // Whether each treaty is in range and its number above the one before.
 fn treaties_pass(places: [Treaty; 8], count: usize) -> bool
@@ -40,7 +44,7 @@ fn treaties_unused(places: [Treaty; 8], from: usize) -> bool
     ensures { λ r. ⌜ r ≡ every treatyUnused (drop from places) ⌝ }
 {
     let mut i = from;
-    while i < 8 {
+    while i < PLACES {
         let treaty = places[i];
         if 0 < range::treaty_not_zero(treaty) {
             return false;
@@ -55,7 +59,7 @@ fn treaties(t: Treaties) -> bool
     ensures { λ r. ⌜ r ≡ validTreaties t ⌝ }
 {
     let count = t.count;
-    if 8 < count {
+    if PLACES < count {
         return false;
     }
     let places = t.places;
@@ -92,7 +96,7 @@ fn layers_unused(places: [Terms; 8], from: usize) -> bool
     ensures { λ r. ⌜ r ≡ every termsUnused (drop from places) ⌝ }
 {
     let mut i = from;
-    while i < 8 {
+    while i < PLACES {
         let terms = places[i];
         if 0 < range::terms_not_zero(terms) {
             return false;
@@ -107,7 +111,7 @@ fn layers(l: Layers) -> bool
     ensures { λ r. ⌜ r ≡ validLayers l ⌝ }
 {
     let count = l.count;
-    if 8 < count {
+    if PLACES < count {
         return false;
     }
     let places = l.places;

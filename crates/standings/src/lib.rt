@@ -4,6 +4,7 @@ ghost use mathlib.Core.Bool.{true};
 ghost use Rattle.programme.specs.Contracts.{contractsIn};
 ghost use Rattle.programme.specs.Valid.{valid};
 ghost use Rattle.year.specs.Standing.{fresh, standingPasses, openOf};
+use events::rule;
 use programme::contract::Programme;
 use programme::valid;
 use year::Opening;
@@ -11,6 +12,9 @@ use year::Standing;
 
 pub mod records;
 pub mod test;
+
+// The refusal of a standing that breaks a rule.
+pub const NOT_A_STANDING: u64 = 8;
 
 // A fresh year's standing: nothing spent, no day run.
 pub fn fresh() -> Standing
@@ -35,7 +39,7 @@ pub fn open(programme: Programme) -> Opening
         };
     }
     Opening {
-        refusal: 6,
+        refusal: valid::NOT_A_PROGRAMME,
         number: 0,
         standing: fresh(),
     }
@@ -47,7 +51,7 @@ pub fn passes(programme: Programme, standing: Standing) -> bool
     requires { ⌜ valid programme ≡ true ⌝ }
     ensures { λ r. ⌜ r ≡ standingPasses (contractsIn programme) standing ⌝ }
 {
-    if 366 < standing.day {
+    if rule::LAST_DAY < standing.day {
         return false;
     }
     let risk = programme.risk;

@@ -9,6 +9,7 @@ ghost use Rattle.programme.specs.Contracts.{layersIn};
 ghost use Rattle.programme.specs.Valid.{validLayers};
 ghost use Rattle.year.specs.Standing.{layersWith, withinCap, spentPasses};
 use programme::contract::Layers;
+use programme::contract::PLACES;
 
 // Whether no layer's spent amount is above its cap.
 fn within_caps(layers: Layers, spent: [u64; 8]) -> bool
@@ -33,7 +34,7 @@ fn zeros(spent: [u64; 8], from: usize) -> bool
     ensures { λ r. ⌜ r ≡ every (λ (m : ℕ). eqb m 0) (drop from spent) ⌝ }
 {
     let mut i = from;
-    while i < 8 {
+    while i < PLACES {
         if spent[i] != 0 {
             return false;
         }

@@ -28,6 +28,20 @@ pub struct Counts {
 // The fewest bytes that it has: those of the totals' line, each number one digit, and the line feed.
 pub const SHORTEST: usize = 65;
 
+// No line has more bytes, whatever its numbers are, its line feed included.
+pub const LONGEST_LINE: usize = 200;
+
+// The bytes of each kind of line that stand for themselves, its line feed included.
+const EVENT_BYTES: usize = 60;
+
+const TREATY_BYTES: usize = 19;
+
+const RISK_BYTES: usize = 61;
+
+const CAT_BYTES: usize = 60;
+
+const TOTAL_BYTES: usize = 59;
+
 // A piece of a line and the number after it, which stands at a place of the line's numbers, where there is room for
 // them.
 fn put_field(out: &mut [u8], at: usize, piece: &[u8], row: &[u64], k: usize) -> usize
@@ -149,7 +163,7 @@ fn put_cut(out: &mut [u8], at: usize, kind: Kind, row: &[u64]) -> usize
     ensures { λ r. ⌜ Put (now (out .entry)) at (filled (templateOf kind) (now (row .entry)) (10 ∷ []))
         (now (out .exit)) r × (r ≤ at + 200) ⌝ }
 {
-    let mut line = [0u8; 200];
+    let mut line = [0u8; LONGEST_LINE];
     let end = put_within(&mut line, 0, kind, row);
     buffer::put_bytes(out, at, &line[..end])
 }
@@ -160,7 +174,7 @@ fn put_line(out: &mut [u8], at: usize, kind: Kind, row: &[u64]) -> usize
     ensures { λ r. ⌜ Put (now (out .entry)) at (filled (templateOf kind) (now (row .entry)) (10 ∷ []))
         (now (out .exit)) r × (r ≤ at + 200) ⌝ }
 {
-    if at + 200 <= out.len() {
+    if at + LONGEST_LINE <= out.len() {
         return put_within(out, at, kind, row);
     }
     put_cut(out, at, kind, row)
@@ -215,6 +229,9 @@ pub fn measure(numbers: &[u64], counts: Counts) -> usize
     requires { ⌜ Fits (now numbers) counts ⌝ }
     ensures { λ r. ⌜ ((t : Statement) → Shows t (now (numbers .entry)) counts → r ≡ length (statementText t)) ⌝ }
 {
-    let lines = 60 * counts.events + 19 * counts.treaties + 61 * counts.risk + 60 * counts.cat + 59;
+    let contracts = TREATY_BYTES * counts.treaties
+        + RISK_BYTES * counts.risk
+        + CAT_BYTES * counts.cat;
+    let lines = EVENT_BYTES * counts.events + contracts + TOTAL_BYTES;
     lines + number::sizes(numbers)
 }

@@ -19,11 +19,11 @@ use Rattle.layer.specs.declared.terms.Terms.{Terms}
 use Rattle.programme.specs.declared.contract.Contract.{Contract}
 use Rattle.programme.specs.declared.contract.Contract.the-variants.{Proportional, Risk, Cat}
 use Rattle.programme.specs.declared.rule.Last.{Last}
-use Rattle.programme.specs.declared.rule.Progress.{Progress}
-use Rattle.programme.specs.Contracts.{Contracts, noContracts, entered, noTreaty, noTerms, programmeOf}
-use Rattle.programme.specs.Rules.{treatyNumber, bandEnd, lastOf, progressOf, faultAfter}
+use Rattle.programme.specs.declared.rule.Before.{Before}
+use Rattle.programme.specs.Contracts.{Contracts, noContracts, withContract, noTreaty, noTerms, programmeOf}
+use Rattle.programme.specs.Rules.{treatyNumber, bandEnd, lastOf, beforeOf, faultAfter}
 use Rattle.programme.specs.Rules.{faultOf}
-use Rattle.programme.specs.LineByLine.{placeAfter, progressAfter, EightAtMost}
+use Rattle.programme.specs.LineByLine.{placeAfter, beforeNext, EightAtMost}
 use Rattle.programme.proofs.Bounds.{treaty-in-range}
 use Rattle.programme.proofs.Faults.{TreatyFaultless, treaty-faultless, layer-faultless}
 use Rattle.programme.proofs.Places.{place-next}
@@ -55,7 +55,7 @@ module _ {A : Type 0} (unused : A) (figure : A → ℕ) (xs ps : List A) (l : La
       }
 
 -- Before line `number + 1`, which begins at the place `at`. Treaties are at most as many as the last T tells.
-pub record Going (s : List ℕ) (ts : List Treaty) (rs cs : List Terms) (before : Progress) (number at : ℕ)
+pub record Going (s : List ℕ) (ts : List Treaty) (rs cs : List Terms) (before : Before) (number at : ℕ)
     : Type 0 where
   pub contracts : Contracts
   pub treaties : Held noTreaty treatyNumber (contracts .treaties) ts (before .treaties)
@@ -70,8 +70,8 @@ pub record Going (s : List ℕ) (ts : List Treaty) (rs cs : List Terms) (before 
   pub rest : readFrom 1 noContracts (formsOf s) ≡ readFrom (number + 1) contracts (formsOf (drop at s))
 
 -- before the first line
-pub going-begins : (s : List ℕ) (t : Treaty) (r c : Terms) (before : Progress)
-    → t ≡ noTreaty → r ≡ noTerms → c ≡ noTerms → before ≡ progressOf noContracts
+pub going-begins : (s : List ℕ) (t : Treaty) (r c : Terms) (before : Before)
+    → t ≡ noTreaty → r ≡ noTerms → c ≡ noTerms → before ≡ beforeOf noContracts
     → Going s (replicate 8 t) (replicate 8 r) (replicate 8 c) before 0 0
 going-begins s t r c before a b d e = rw (a, b, d, e) (record {
   contracts = noContracts;
@@ -91,7 +91,7 @@ refuses : (n w : ℕ) (r : Reading) → (n ≡ 0 → ⊥) → unlessFault n w r 
 refuses zero w r h = absurd (h refl)
 refuses (suc n) w r h = refl
 
-module _ (s : List ℕ) (ts : List Treaty) (rs cs : List Terms) (before : Progress) (number at : ℕ)
+module _ (s : List ℕ) (ts : List Treaty) (rs cs : List Terms) (before : Before) (number at : ℕ)
     (g : Going s ts rs cs before number at) where
   pub eight-at-most : EightAtMost before
   eight-at-most = record {
@@ -100,7 +100,7 @@ module _ (s : List ℕ) (ts : List Treaty) (rs cs : List Terms) (before : Progre
     cat = g .few-cat;
   }
 
-  progress : before ≡ progressOf (g .contracts)
+  progress : before ≡ beforeOf (g .contracts)
   progress = λ i. record { treaties = g .treaties .last i; risk = g .risk .last i; cat = g .cat .last i }
 
   -- no line is left
@@ -132,7 +132,7 @@ module _ (s : List ℕ) (ts : List Treaty) (rs cs : List Terms) (before : Progre
 
       module _ (x : Contract) (v : f ≡ Line x) (n : ℕ) (z : n ≡ faultAfter before x) where
         fault : faultOf (g .contracts) x ≡ n
-        fault = sym (z ∙ ap (λ (p : Progress). faultAfter p x) progress)
+        fault = sym (z ∙ ap (λ (p : Before). faultAfter p x) progress)
 
         pub at-fault : (r : Reading) → r ≡ refusedAt n (number + 1) → (n ≡ 0 → ⊥)
             → r ≡ readFrom 1 noContracts (formsOf s)
@@ -145,7 +145,7 @@ module _ (s : List ℕ) (ts : List Treaty) (rs cs : List Terms) (before : Progre
 
           -- the lines after this one, where its contract is y
           ahead : (y : Contract) → x ≡ y → readFrom 1 noContracts (formsOf s)
-              ≡ readFrom (number + 1 + 1) (entered (g .contracts) y) (formsOf (drop (e + 1) s))
+              ≡ readFrom (number + 1 + 1) (withContract (g .contracts) y) (formsOf (drop (e + 1) s))
           unfolding readFrom
           ahead y u = g .rest ∙ rw (forms, v, fault, m, u)
 
@@ -153,7 +153,7 @@ module _ (s : List ℕ) (ts : List Treaty) (rs cs : List Terms) (before : Progre
           fine y u = ap (faultAfter before) (sym u) ∙ without-fault
 
           module _ (k : ℕ) (place : k ≡ placeAfter before x)
-              (next : Progress) (after : next ≡ progressAfter before x) where
+              (next : Before) (after : next ≡ beforeNext before x) where
             -- a treaty enters; 56 bytes a place
             module _ (t : Treaty) (u : x ≡ Proportional t) where
               treaty-fine : TreatyFaultless (before .risk .count + before .cat .count) (before .treaties .figure) t
@@ -176,7 +176,7 @@ module _ (s : List ℕ) (ts : List Treaty) (rs cs : List Terms) (before : Progre
 
               pub treaty-enters : Going s (set ts k t) rs cs next (number + 1) (e + 1)
               treaty-enters = rw (after, u, treaty-at) (record {
-                contracts = entered (g .contracts) (Proportional t);
+                contracts = withContract (g .contracts) (Proportional t);
                 treaties = held-next _ _ _ _ _ (g .treaties) treaty-few t;
                 risk = g .risk;
                 cat = g .cat;
@@ -205,7 +205,7 @@ module _ (s : List ℕ) (ts : List Treaty) (rs cs : List Terms) (before : Progre
 
               pub risk-enters : Going s ts (set rs k t) cs next (number + 1) (e + 1)
               risk-enters = rw (after, u, risk-at) (record {
-                contracts = entered (g .contracts) (Risk t);
+                contracts = withContract (g .contracts) (Risk t);
                 treaties = g .treaties;
                 risk = held-next _ _ _ _ _ (g .risk) risk-few t;
                 cat = g .cat;
@@ -234,7 +234,7 @@ module _ (s : List ℕ) (ts : List Treaty) (rs cs : List Terms) (before : Progre
 
               pub cat-enters : Going s ts rs (set cs k t) next (number + 1) (e + 1)
               cat-enters = rw (after, u, cat-at) (record {
-                contracts = entered (g .contracts) (Cat t);
+                contracts = withContract (g .contracts) (Cat t);
                 treaties = g .treaties;
                 risk = g .risk;
                 cat = held-next _ _ _ _ _ (g .cat) cat-few t;

@@ -14,7 +14,7 @@ use programme::contract::Contract;
 use programme::contract::Layers;
 use programme::contract::Programme;
 use programme::contract::Treaties;
-use programme::rule::Progress;
+use programme::rule::Before;
 use programme::valid;
 use table_text::Form;
 use table_text::Reading;
@@ -23,6 +23,15 @@ use treaty::Treaty;
 
 pub mod form;
 pub mod print;
+
+// The longest table text that is read, in bytes.
+pub const TABLE_BYTES: usize = 8192;
+
+// A text over it.
+const TABLE_TOO_LONG: u64 = 1;
+
+// A line that is none of the four forms, or has no line feed.
+const NOT_A_TABLE_FORM: u64 = 2;
 
 // A refusal, with the programme without contracts.
 fn refused(refusal: u64, line: u64) -> Reading
@@ -36,7 +45,7 @@ fn refused(refusal: u64, line: u64) -> Reading
 }
 
 // A success, from the places and how many of each are used.
-fn accepted(treaties: [Treaty; 8], risk: [Terms; 8], cat: [Terms; 8], counts: Progress) -> Reading
+fn accepted(treaties: [Treaty; 8], risk: [Terms; 8], cat: [Terms; 8], counts: Before) -> Reading
     ensures { λ r. ⌜ r ≡ readPlaces treaties risk cat counts ⌝ }
 {
     let programme = Programme {
@@ -67,17 +76,17 @@ fn read_lines(text: &[u8]) -> Reading
     let mut treaties = [contract::no_treaty(); 8];
     let mut risk = [contract::no_terms(); 8];
     let mut cat = [contract::no_terms(); 8];
-    let mut before = Progress::first();
+    let mut before = Before::first();
     let mut number: u64 = 0;
     let mut at = 0;
     while at < text.len() {
         let end = line::end(text, at);
         number += 1;
         if end == text.len() {
-            return refused(2, number);
+            return refused(NOT_A_TABLE_FORM, number);
         }
         let Form::Line(contract) = form::read(&text[at..end]) else {
-            return refused(2, number);
+            return refused(NOT_A_TABLE_FORM, number);
         };
         let fault = before.fault(contract);
         if fault != 0 {
@@ -99,8 +108,8 @@ fn read_lines(text: &[u8]) -> Reading
 pub fn read(text: &[u8]) -> Reading
     ensures { λ r. ⌜ r ≡ readOf (now (text .entry)) ⌝ }
 {
-    if 8192 < text.len() {
-        return refused(1, 0);
+    if TABLE_BYTES < text.len() {
+        return refused(TABLE_TOO_LONG, 0);
     }
     read_lines(text)
 }
@@ -115,7 +124,7 @@ pub fn write(programme: Programme, buffer: &mut [u8]) -> Answer
         let needed = print::put_table(&mut buffer[..0], programme);
         if buffer.len() < needed {
             return Answer {
-                refusal: 7,
+                refusal: answer::BUFFER_TOO_SHORT,
                 number: needed as u64,
             };
         }
@@ -126,7 +135,7 @@ pub fn write(programme: Programme, buffer: &mut [u8]) -> Answer
         };
     }
     Answer {
-        refusal: 6,
+        refusal: valid::NOT_A_PROGRAMME,
         number: 0,
     }
 }

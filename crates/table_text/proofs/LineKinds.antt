@@ -8,7 +8,7 @@ use native.Mathlib.Omega.{arith}
 use borrow.Author.Tests.{eq-eqb, ne-eqb}
 use lib.ListN.{length, getD}
 use Rattle.lists.proofs.Cases.{by-eq}
-use Rattle.text.specs.Template.{numbersOf}
+use Rattle.text.specs.Template.{numbersBy}
 use Rattle.text.specs.declared.template.Numbers.{Numbers}
 use Rattle.treaty.specs.declared.Treaty.{Treaty}
 use Rattle.layer.specs.declared.terms.Terms.{Terms}
@@ -89,20 +89,20 @@ module _ (n : Numbers) (h : n .found ≡ true) where
 
 -- what a line of the kind k is, from what its template reads of it
 module _ (s : List ℕ) (k : ℕ) (q : k ≡ kindOf s) where
-  pub form-quota : k ≡ 1 → (n : Numbers) → n ≡ numbersOf quotaText s → (f : Form) → f ≡ quotaForm n → f ≡ formOf s
+  pub form-quota : k ≡ 1 → (n : Numbers) → n ≡ numbersBy quotaText s → (f : Form) → f ≡ quotaForm n → f ≡ formOf s
   unfolding formOf formOfKind
   form-quota h n e f p = p ∙ rw (formOf, ← q, h, e)
 
-  pub form-surplus : k ≡ 2 → (n : Numbers) → n ≡ numbersOf surplusText s → (f : Form) → f ≡ surplusForm n
+  pub form-surplus : k ≡ 2 → (n : Numbers) → n ≡ numbersBy surplusText s → (f : Form) → f ≡ surplusForm n
       → f ≡ formOf s
   unfolding formOf formOfKind
   form-surplus h n e f p = p ∙ rw (formOf, ← q, h, e)
 
-  pub form-risk : k ≡ 3 → (n : Numbers) → n ≡ numbersOf riskText s → (f : Form) → f ≡ riskForm n → f ≡ formOf s
+  pub form-risk : k ≡ 3 → (n : Numbers) → n ≡ numbersBy riskText s → (f : Form) → f ≡ riskForm n → f ≡ formOf s
   unfolding formOf formOfKind
   form-risk h n e f p = p ∙ rw (formOf, ← q, h, e)
 
-  pub form-cat : k ≡ 4 → (n : Numbers) → n ≡ numbersOf catText s → (f : Form) → f ≡ catForm n → f ≡ formOf s
+  pub form-cat : k ≡ 4 → (n : Numbers) → n ≡ numbersBy catText s → (f : Form) → f ≡ catForm n → f ≡ formOf s
   unfolding formOf formOfKind
   form-cat h n e f p = p ∙ rw (formOf, ← q, h, e)
 

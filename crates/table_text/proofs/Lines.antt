@@ -12,7 +12,7 @@ use lib.ListN.{length, getD}
 use Rattle.lists.specs.Each.{Each}
 use Rattle.lists.proofs.Cases.{by-eq}
 use Rattle.text.specs.Number.{digitOf}
-use Rattle.text.specs.Template.{capital, holes, filled, eight, lineNumbers, numbersOf}
+use Rattle.text.specs.Template.{capital, holes, filled, eight, lineNumbers, numbersBy}
 use Rattle.text.proofs.Digits.{Readable}
 use Rattle.text.proofs.Forms.{parted, separated, line-read, line-printed}
 use Rattle.text.proofs.Lengths.{filled-length}
@@ -44,7 +44,7 @@ record Shape (t : List ℕ) (n k : ℕ) (make : List ℕ → Contract) : Type 0 
   count : holes t ≡ n
   short : length t + 15 * n ≤ 160
   kind : (ns : List ℕ) → kindOf (filled t ns []) ≡ k
-  reads : (s : List ℕ) → formOfKind k s ≡ formIf (numbersOf t s .found) (make (numbersOf t s .values))
+  reads : (s : List ℕ) → formOfKind k s ≡ formIf (numbersBy t s .found) (make (numbersBy t s .values))
   prints : (ns : List ℕ) → length ns ≡ n → lineOf (make (eight ns)) ≡ filled t ns []
 
 -- lists of four and of seven numbers, by their places
@@ -142,7 +142,7 @@ module _ (t : List ℕ) (n k : ℕ) (make : List ℕ → Contract) (f : Shape t 
   shape-read s x e = by-numbers (lineNumbers t s) refl (sym (f .reads s) ∙ e)
     where
       by-numbers : (o : Option (List ℕ)) → lineNumbers t s ≡ o
-          → formIf (numbersOf t s .found) (make (numbersOf t s .values)) ≡ Line x → s ≡ lineOf x
+          → formIf (numbersBy t s .found) (make (numbersBy t s .values)) ≡ Line x → s ≡ lineOf x
       by-numbers none q h = let z : _≡_ {A = ℕ} 0 1 = cc (rw q at h) in absurd (omega arith)
       by-numbers (some ns) q h =
           let r = line-read t s ns q in

@@ -18,7 +18,7 @@ use Rattle.treaty.specs.declared.Treaty.{Treaty}
 use Rattle.layer.specs.declared.terms.Terms.{Terms}
 use Rattle.programme.specs.declared.contract.Contract.{Contract}
 use Rattle.programme.specs.declared.contract.Contract.the-variants.{Proportional, Risk, Cat}
-use Rattle.programme.specs.Contracts.{Contracts, noContracts, entered, inOrder, programmeOf}
+use Rattle.programme.specs.Contracts.{Contracts, noContracts, withContract, inOrder, programmeOf}
 use Rattle.programme.specs.Rules.{treatyNumber, bandEnd, lastOf, treatyFault, layerFault, faultOf}
 use Rattle.programme.specs.Valid.{treatyPasses, layerPasses}
 use Rattle.programme.proofs.Faults.{treaty-fine, layer-fine}
@@ -31,11 +31,11 @@ use Rattle.table_text.specs.Read.{readAs, readFrom, readOf}
 use Rattle.table_text.proofs.Lines.{Fit, form-printed, line-no-feed, line-short}
 
 -- The lines of one kind, read one after another: `state` gives all contracts from those of this kind, `form` the
--- contract of one. One that passes after the last has no fault, and is entered.
+-- contract of one. One that passes after the last has no fault, and is withContract.
 module _ {A : Type 0} (passes : ℕ → A → Bool) (figure : A → ℕ) (state : List A → Contracts) (form : A → Contract)
     (fine : (done : List A) (x : A) → length done < 8 → passes (lastBy figure 0 done) x ≡ true
     → faultOf (state done) (form x) ≡ 0)
-    (enters : (done : List A) (x : A) → entered (state done) (form x) ≡ state (done ++ (x ∷ [])))
+    (enters : (done : List A) (x : A) → withContract (state done) (form x) ≡ state (done ++ (x ∷ [])))
     (rest : List Form) (r : Reading) where
   -- those done and those ahead, where the lines after them give r
   kind-read : (done xs : List A) → length done + length xs ≤ 8

@@ -17,7 +17,7 @@ use Rattle.layer.specs.declared.terms.Terms.{Terms}
 use Rattle.programme.specs.declared.contract.Programme.{Programme}
 use Rattle.programme.specs.declared.contract.Contract.{Contract}
 use Rattle.programme.specs.declared.contract.Contract.the-variants.{Proportional, Risk, Cat}
-use Rattle.programme.specs.Contracts.{Contracts, noContracts, entered, inOrder, programmeOf}
+use Rattle.programme.specs.Contracts.{Contracts, noContracts, withContract, inOrder, programmeOf}
 use Rattle.programme.specs.Rules.{treatyNumber, bandEnd, lastOf, faultOf}
 use Rattle.programme.specs.Valid.{treatyPasses, layerPasses}
 use Rattle.programme.proofs.Faults.{LayerFaultless, treaty-faultless, layer-faultless}
@@ -46,7 +46,7 @@ module _ (later : ℕ) (ls : List Terms) (l : Terms) (f : LayerFaultless later (
 
 -- a contract without fault leaves the contracts lawful, and is the last of them in the table's order
 one-more : (c : Contracts) (x : Contract) → Lawful c → faultOf c x ≡ 0
-    → Lawful (entered c x) × (inOrder (entered c x) ≡ inOrder c ++ (x ∷ []))
+    → Lawful (withContract c x) × (inOrder (withContract c x) ≡ inOrder c ++ (x ∷ []))
 one-more c (Proportional t) g z =
     let f = treaty-faultless _ _ t z in
     let no-risk = none-left (c .risk) (omega (arith, f .order)) in
@@ -111,10 +111,10 @@ read-on [] w c p g e = record {
   order = sym (append-nil (inOrder c));
 }
 read-on (NoForm ∷ fs) w c p g e = absurd (no-success 1 w p e)
-read-on (Line x ∷ fs) w c p g e = by-fault (faultOf c x) refl e (read-on fs (w + 1) (entered c x) p)
+read-on (Line x ∷ fs) w c p g e = by-fault (faultOf c x) refl e (read-on fs (w + 1) (withContract c x) p)
   where
-    by-fault : (n : ℕ) → faultOf c x ≡ n → unlessFault n w (readFrom (w + 1) (entered c x) fs) ≡ readAs p
-        → (Lawful (entered c x) → readFrom (w + 1) (entered c x) fs ≡ readAs p → ReadOn (entered c x) fs p)
+    by-fault : (n : ℕ) → faultOf c x ≡ n → unlessFault n w (readFrom (w + 1) (withContract c x) fs) ≡ readAs p
+        → (Lawful (withContract c x) → readFrom (w + 1) (withContract c x) fs ≡ readAs p → ReadOn (withContract c x) fs p)
         → ReadOn c (Line x ∷ fs) p
     by-fault zero z h again =
         let m = one-more c x g z in

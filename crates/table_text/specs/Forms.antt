@@ -7,7 +7,7 @@ use Prim.Native.Nat.{ℕ}
 use lib.Dec.{eqb}
 use lib.ListN.{getD}
 use Rattle.text.specs.Bytes.{bytes}
-use Rattle.text.specs.Template.{filled, numbersOf}
+use Rattle.text.specs.Template.{filled, numbersBy}
 use Rattle.text.specs.Lines.{linesOf, joined}
 use Rattle.text.specs.declared.template.Numbers.{Numbers}
 use Rattle.treaty.specs.declared.Treaty.{Treaty}
@@ -72,10 +72,10 @@ kindOf s = cond (eqb (getD s 0 0) 40) (letterKind (getD s 1 0)) 0
 -- what a line of a kind is
 unfoldable pub formOfKind : ℕ → List ℕ → Form
 formOfKind k s =
-    cond (eqb k 1) (quotaForm (numbersOf quotaText s))
-    (cond (eqb k 2) (surplusForm (numbersOf surplusText s))
-    (cond (eqb k 3) (riskForm (numbersOf riskText s))
-    (cond (eqb k 4) (catForm (numbersOf catText s)) NoForm)))
+    cond (eqb k 1) (quotaForm (numbersBy quotaText s))
+    (cond (eqb k 2) (surplusForm (numbersBy surplusText s))
+    (cond (eqb k 3) (riskForm (numbersBy riskText s))
+    (cond (eqb k 4) (catForm (numbersBy catText s)) NoForm)))
 
 -- what a line is
 unfoldable pub formOf : List ℕ → Form

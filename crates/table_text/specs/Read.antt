@@ -6,7 +6,7 @@ use Prim.Native.Nat.{ℕ, zero, suc, _+_}
 use lib.Dec.{ltb}
 use lib.ListN.{length}
 use Rattle.programme.specs.declared.contract.Programme.{Programme}
-use Rattle.programme.specs.Contracts.{Contracts, noContracts, entered, programmeOf}
+use Rattle.programme.specs.Contracts.{Contracts, noContracts, withContract, programmeOf}
 use Rattle.programme.specs.Rules.{faultOf}
 use Rattle.table_text.specs.declared.Reading.{Reading}
 use Rattle.table_text.specs.declared.Form.{Form}
@@ -31,7 +31,7 @@ unlessFault (suc n) w r = refusedAt (suc n) w
 unfoldable pub readFrom : ℕ → Contracts → List Form → Reading
 readFrom w c [] = readAs (programmeOf c)
 readFrom w c (NoForm ∷ fs) = refusedAt 2 w
-readFrom w c (Line x ∷ fs) = unlessFault (faultOf c x) w (readFrom (w + 1) (entered c x) fs)
+readFrom w c (Line x ∷ fs) = unlessFault (faultOf c x) w (readFrom (w + 1) (withContract c x) fs)
 
 -- reading a text: 1, over 8,192 bytes, with line 0; then line by line
 unfoldable pub readOf : List ℕ → Reading

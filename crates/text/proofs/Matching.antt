@@ -13,7 +13,7 @@ use lib.Seq.{drop-cons, drop-drop, drop-at, take-suc-set, drop-set-lt, length-ta
 use Rattle.text.specs.Number.{digits, number, numberOf, numberAt}
 use Rattle.text.specs.Template.{capital, holes, filled, matched}
 use Rattle.text.specs.Template.{eight, unmatched, matchedOf, matchedAt, noNumbers}
-use Rattle.text.specs.Template.{wholeOf, lineNumbers, numbersOf}
+use Rattle.text.specs.Template.{wholeOf, lineNumbers, numbersBy}
 use Rattle.text.specs.declared.number.Number.{Number}
 use Rattle.text.specs.declared.number.Number.the-variants.{Value, Nothing}
 use Rattle.text.specs.declared.template.Place.the-variants.{At, Nowhere}
@@ -204,12 +204,12 @@ module _ (t s : List ℕ) (at : ℕ) (r : Matched) (q : r ≡ matchedAt t s at) 
 
 -- a line that is read by a template, as the answer
 module _ (t s : List ℕ) (r : Matched) (q : r ≡ matchedAt t s 0) where
-  pub line-missing : (n : Numbers) → n ≡ noNumbers → r .place ≡ Nowhere → n ≡ numbersOf t s
+  pub line-missing : (n : Numbers) → n ≡ noNumbers → r .place ≡ Nowhere → n ≡ numbersBy t s
   unfolding lineNumbers wholeOf
   line-missing n e y = e ∙ rw (match-missing t s 0 r q y)
 
   pub line-whole : (end : ℕ) → r .place ≡ At end → end ≡ length s
-      → record { found = true; values = r .values } ≡ numbersOf t s
+      → record { found = true; values = r .values } ≡ numbersBy t s
   unfolding lineNumbers wholeOf
   line-whole end y l =
       let f = match-found t s 0 r q end (omega arith) y in
@@ -217,7 +217,7 @@ module _ (t s : List ℕ) (r : Matched) (q : r ≡ matchedAt t s 0) where
       rw (f .read, drop-of-length-le s h) (λ x. record { found = true; values = f .padded x })
 
   pub line-longer : (n : Numbers) → n ≡ noNumbers → (end : ℕ) → r .place ≡ At end → (end ≡ length s → ⊥)
-      → n ≡ numbersOf t s
+      → n ≡ numbersBy t s
   unfolding lineNumbers wholeOf
   line-longer n e end y l =
       let f = match-found t s 0 r q end (omega arith) y in

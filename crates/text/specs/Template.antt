@@ -75,5 +75,5 @@ numbersFrom none = noNumbers
 numbersFrom (some ns) = record { found = true; values = eight ns }
 
 -- what a whole line is by a template
-abbrev pub numbersOf : List ℕ → List ℕ → Numbers
-numbersOf t s = numbersFrom (lineNumbers t s)
+abbrev pub numbersBy : List ℕ → List ℕ → Numbers
+numbersBy t s = numbersFrom (lineNumbers t s)

@@ -4,7 +4,7 @@ ghost use mathlib.Core.Path.{_≡_};
 ghost use Prim.Native.Nat.{_+_, _*_, _^_, _≤_, _<_};
 ghost use lib.ListN.{length};
 ghost use Rattle.text.specs.Buffer.{Put};
-ghost use Rattle.text.specs.Template.{capital, holes, filled, matchedAt, numbersOf, unmatched, noNumbers};
+ghost use Rattle.text.specs.Template.{capital, holes, filled, matchedAt, numbersBy, unmatched, noNumbers};
 use crate::buffer;
 use crate::number;
 use crate::number::Number;
@@ -95,7 +95,7 @@ fn no_numbers() -> Numbers
 // Reads a whole line by a template.
 pub fn read_line(template: &[u8], line: &[u8]) -> Numbers
     requires { ⌜ holes (now template) ≤ 8 ⌝ }
-    ensures { λ r. ⌜ r ≡ numbersOf (now (template .entry)) (now (line .entry)) ⌝ }
+    ensures { λ r. ⌜ r ≡ numbersBy (now (template .entry)) (now (line .entry)) ⌝ }
 {
     let matched = read_at(template, line, 0);
     let place = matched.place;

@@ -53,7 +53,7 @@ same-length : tie.Need-same-length
 same-length c = search needs
 
 returns : tie.Need-returns
-returns c = search law.entered
+returns c = search law.as-booked
 
 pub enter-spec : {M : Type 1} → statement M
 enter-spec =
