@@ -117,22 +117,22 @@ impl Progress {
     // The progress after an event, from what the treaties cede of it and what they leave, loss by loss. Each in turn is
     // the subject of the risk layers; what these leave of all is the subject of the catastrophe layers. The numbers of
     // its line are kept.
-    fn enter(self, day: u64, by_treaties: ByTreaties, left: &[u64], kept: &mut [u64]) -> Progress
-        requires { ⌜ CanEnter self by_treaties (now left) ⌝ }
+    fn enter(self, day: u64, treaties: ByTreaties, left: &[u64], kept: &mut [u64]) -> Progress
+        requires { ⌜ CanEnter self treaties (now left) ⌝ }
         ensures { λ r. ⌜ ((ts : List Treaty) (xs : List Loss) (cs cs′ : List ℕ)
-            → AfterTreaties ts xs cs cs′ by_treaties → now (left .entry) ≡ leftOfEach ts [] xs
+            → AfterTreaties ts xs cs cs′ treaties → now (left .entry) ≡ leftOfEach ts [] xs
             → Booked ts self (record { day = day; losses = xs }) (now (kept .entry)) (now (kept .exit)) cs cs′ r) ⌝ }
     {
         let after_risk = self.records.risk.bear(left);
         let by_risk = after_risk.sums.recovered.cents();
-        let subject = by_treaties.gross - by_treaties.ceded - by_risk;
+        let subject = treaties.gross - treaties.ceded - by_risk;
         let after_cat = self.records.cat.bear(&[subject]);
         let by_cat = after_cat.sums.recovered.cents();
         let net = subject - by_cat;
         let premium = after_risk.sums.premium.cents() + after_cat.sums.premium.cents();
         let amounts = Amounts {
-            gross: by_treaties.gross,
-            ceded: by_treaties.ceded,
+            gross: treaties.gross,
+            ceded: treaties.ceded,
             risk: by_risk,
             cat: by_cat,
             net,
@@ -166,8 +166,8 @@ impl Progress {
             (now (kept .entry)) (now (kept .exit)) (now (cessions .entry)) (now (cessions .exit)) r) ⌝ }
     {
         let mut left = [0u64; rule::LOSSES];
-        let by_treaties = cede::cede_each(table, losses, &mut left, cessions);
+        let treaties = cede::cede_each(table, losses, &mut left, cessions);
         let count = losses.len() / 3;
-        self.enter(day, by_treaties, &left[..count], kept)
+        self.enter(day, treaties, &left[..count], kept)
     }
 }

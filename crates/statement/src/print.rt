@@ -229,9 +229,10 @@ pub fn measure(numbers: &[u64], counts: Counts) -> usize
     requires { ⌜ Fits (now numbers) counts ⌝ }
     ensures { λ r. ⌜ ((t : Statement) → Shows t (now (numbers .entry)) counts → r ≡ length (statementText t)) ⌝ }
 {
-    let contracts = TREATY_BYTES * counts.treaties
+    let lines = EVENT_BYTES * counts.events
+        + TREATY_BYTES * counts.treaties
         + RISK_BYTES * counts.risk
-        + CAT_BYTES * counts.cat;
-    let lines = EVENT_BYTES * counts.events + contracts + TOTAL_BYTES;
+        + CAT_BYTES * counts.cat
+        + TOTAL_BYTES;
     lines + number::sizes(numbers)
 }

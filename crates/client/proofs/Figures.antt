@@ -1,0 +1,143 @@
+-- What the definitions come to on the client's texts, programmes and standings, by computation.
+-- Assumes nothing.
+use mathlib.Core.Path.{_≡_, refl, ap, _∙_}
+use mathlib.Core.List.{List, [], _∷_, _++_}
+use Prim.Native.Nat.{ℕ}
+use lib.ListN.{length, replicate}
+use Rattle.arith.specs.Round.{rounded}
+use Rattle.text.specs.Bytes.{bytes}
+use Rattle.text.specs.Number.{printedBy, printed, digitOf, readOn, number}
+use Rattle.text.specs.Template.{capital, filled, matched, wholeOf, lineNumbers}
+use Rattle.text.specs.Lines.{linesOf}
+use Rattle.treaty.specs.Treaty.{coveredPart, cededByQuota, cededBySurplus, cededOf, cededOfLoss}
+use Rattle.treaty.specs.Losses.{cededIn}
+use Rattle.layer.specs.Layer.{placedOf, recoveredOf, premiumOf, recoveryOf, chargeOf}
+use Rattle.answer.specs.declared.Answer.{Answer}
+use Rattle.answer.specs.Outcome.{Outcome, refused, fitted, answerOf, bufferAfter}
+use Rattle.programme.specs.declared.contract.Programme.{Programme}
+use Rattle.programme.specs.Ranges.{outside, treatyOutside, termsOutside, treatyNotZero, termsNotZero}
+use Rattle.programme.specs.Rules.{treatyFault, layerFault}
+use Rattle.programme.specs.Valid.{validTreaties, validLayers, valid}
+use Rattle.table_text.specs.declared.Reading.{Reading}
+use Rattle.table_text.specs.Forms.{kindOf, formOfKind, formOf, treatyLine}
+use Rattle.table_text.specs.Read.{readFrom, readOf}
+use Rattle.table_text.specs.Write.{writeOf}
+use Rattle.events.specs.Event.{closes, lossesUpTo, eventOf}
+use Rattle.events.specs.Rules.{lossOutside, eventOutside, lacking, eventFault}
+use Rattle.events.specs.Read.{eventsOf, readFrom as eventsFrom}
+use Rattle.year.specs.declared.Standing.{Standing}
+use Rattle.year.specs.declared.Opening.{Opening}
+use Rattle.year.specs.Event.{subjectOf}
+use Rattle.year.specs.Statement.{statementText}
+use Rattle.year.specs.Standing.{openOf, standingPasses}
+use Rattle.year.specs.Run.{Left, runFrom, runOf, standingAfter}
+use Rattle.client.specs.declared.After.{After}
+use Rattle.client.specs.After.{afterOf}
+use Rattle.client.specs.Sidney.{noProgramme, zeros, tableText, eventsText, statement, sidney, unusedPlace}
+use Rattle.client.specs.Sidney.{afterwards}
+
+-- the all-zero standing
+abbrev none : Standing
+none = record { risk = zeros; cat = zeros; day = 0 }
+
+-- a share over the whole in the second line
+abbrev overTheWhole : List ℕ
+overTheWhole =
+    bytes "(risk (band 1 1) (deduct 0) (back 0 0 0) (placed 10000))\n"
+    ++ bytes "(cat (band 1 1) (deduct 0) (back 0 0 0) (placed 10001))\n"
+
+record Figures : Type 0 where
+  pub read : readOf tableText ≡ record { refusal = 0; line = 0; programme = sidney }
+  pub not-read : readOf overTheWhole ≡ record { refusal = 3; line = 2; programme = noProgramme }
+  pub opened : openOf sidney ≡ record { refusal = 0; number = 0; standing = none }
+  pub not-opened : openOf unusedPlace ≡ record { refusal = 6; number = 0; standing = none }
+  pub wrote : answerOf (writeOf sidney 243) ≡ record { refusal = 0; number = 240 }
+  pub wrote-bytes : bufferAfter (writeOf sidney 243) (replicate 243 35) ≡ tableText ++ (35 ∷ 35 ∷ 35 ∷ [])
+  pub not-written : writeOf sidney 239 ≡ refused 7 240
+  pub ran : answerOf (runOf sidney none eventsText 444) ≡ record { refusal = 0; number = 443 }
+  pub ran-standing : standingAfter (runOf sidney none eventsText 444) none ≡ afterwards
+  pub ran-bytes : bufferAfter (runOf sidney none eventsText 444) (replicate 444 35) ≡ statement ++ (35 ∷ [])
+  pub not-run : (room : ℕ) → runOf sidney afterwards (bytes "(event 367)\n") room ≡ refused 11 1
+
+figures : Figures
+unfolding
+    rounded printedBy printed digitOf readOn number capital filled matched wholeOf lineNumbers linesOf
+    coveredPart cededByQuota cededBySurplus cededOf cededOfLoss placedOf recoveredOf premiumOf recoveryOf
+    chargeOf kindOf formOfKind formOf treatyLine outside treatyOutside termsOutside treatyNotZero termsNotZero
+    treatyFault layerFault readFrom readOf validTreaties validLayers valid closes lossesUpTo eventOf lossOutside
+    eventOutside lacking eventFault eventsOf eventsFrom cededIn subjectOf statementText openOf standingPasses fitted
+    writeOf runFrom runOf
+figures = record {
+  read = refl;
+  not-read = refl;
+  opened = refl;
+  not-opened = refl;
+  wrote = refl;
+  wrote-bytes = refl;
+  not-written = refl;
+  ran = refl;
+  ran-standing = refl;
+  ran-bytes = refl;
+  not-run = λ room. refl;
+}
+
+-- as the calls' contracts have them
+pub read-turned-down : {s : List ℕ} {r : Reading} → s ≡ overTheWhole → r ≡ readOf s
+    → r ≡ record { refusal = 3; line = 2; programme = noProgramme }
+read-turned-down e f = f ∙ ap readOf e ∙ figures .not-read
+
+pub opening-turned-down : {p : Programme} {r : Opening} → p ≡ unusedPlace → r ≡ openOf p
+    → r ≡ record { refusal = 6; number = 0; standing = none }
+opening-turned-down e f = f ∙ ap openOf e ∙ figures .not-opened
+
+-- a table that is read
+module _ {t : List ℕ} {r : Reading} (a : t ≡ tableText) (b : r ≡ readOf t) where
+  programme-is : r .programme ≡ sidney
+  programme-is = ap (λ (r : Reading). r .programme) (b ∙ ap readOf a ∙ figures .read)
+
+  -- and written again
+  module _ {d : List ℕ} (e : d ≡ replicate 243 35) where
+    pub table-answer : {n : Answer} → n ≡ answerOf (writeOf (r .programme) (length d))
+        → n ≡ record { refusal = 0; number = 240 }
+    table-answer f = rw (programme-is, e) at f ∙ figures .wrote
+
+    pub table-bytes : {d′ : List ℕ} → d′ ≡ bufferAfter (writeOf (r .programme) (length d)) d
+        → d′ ≡ tableText ++ (35 ∷ 35 ∷ 35 ∷ [])
+    table-bytes f = rw (programme-is, e) at f ∙ figures .wrote-bytes
+
+  -- and for whose programme a year is opened and the event run
+  module _ {o : Opening} (c : o ≡ openOf (r .programme)) {s d : List ℕ} (e : s ≡ eventsText)
+      (f : d ≡ replicate 444 35) where
+    standing-is : o .standing ≡ none
+    standing-is = ap (λ (o : Opening). o .standing) (c ∙ ap openOf programme-is ∙ figures .opened)
+
+    pub run-after : {x : After} → x ≡ afterOf (runOf (r .programme) (o .standing) s (length d)) (o .standing)
+        → x ≡ record { answer = record { refusal = 0; number = 443 }; standing = afterwards }
+    run-after g =
+        rw (programme-is, standing-is, e, f) at g
+        ∙ (λ i. record { answer = figures .ran i; standing = figures .ran-standing i })
+
+    pub run-bytes : {d′ : List ℕ} → d′ ≡ bufferAfter (runOf (r .programme) (o .standing) s (length d)) d
+        → d′ ≡ statement ++ (35 ∷ [])
+    run-bytes g = rw (programme-is, standing-is, e, f) at g ∙ figures .ran-bytes
+
+-- a buffer that is one byte short
+module _ {p : Programme} {d : List ℕ} (a : p ≡ sidney) (b : length d ≡ 239) where
+  pub short-answer : {n : Answer} → n ≡ answerOf (writeOf p (length d)) → n ≡ record { refusal = 7; number = 240 }
+  short-answer f = rw (a, b, figures .not-written) at f
+
+  pub short-bytes : {d′ : List ℕ} → d′ ≡ bufferAfter (writeOf p (length d)) d → d′ ≡ d
+  short-bytes f = rw (a, b, figures .not-written) at f
+
+-- a day out of range
+module _ {p : Programme} {h : Standing} {s d : List ℕ} (a : p ≡ sidney) (b : h ≡ afterwards)
+    (c : s ≡ bytes "(event 367)\n") where
+  refused-is : (room : ℕ) → runOf p h s room ≡ refused 11 1
+  refused-is room = rw (a, b, c) (figures .not-run room)
+
+  pub refused-after : {x : After} → x ≡ afterOf (runOf p h s (length d)) h
+      → x ≡ record { answer = record { refusal = 11; number = 1 }; standing = h }
+  refused-after f = rw (refused-is (length d)) at f
+
+  pub refused-bytes : {d′ : List ℕ} → d′ ≡ bufferAfter (runOf p h s (length d)) d → d′ ≡ d
+  refused-bytes f = rw (refused-is (length d)) at f

@@ -1,0 +1,99 @@
+// A client of the public calls alone. It reads and writes the table of H1, opens its year and runs its event, and makes
+// calls that are turned down. What each answers and leaves is typed out, and follows from the calls' contracts.
+ghost use mathlib.Core.Path.{_≡_};
+ghost use mathlib.Core.List.{[], _∷_, _++_};
+ghost use lib.ListN.{length, replicate};
+ghost use Rattle.text.specs.Bytes.{bytes};
+ghost use Rattle.answer.specs.Outcome.{bufferAfter};
+ghost use Rattle.year.specs.Run.{runOf};
+ghost use Rattle.client.specs.After.{afterOf};
+ghost use Rattle.client.specs.Sidney.{noProgramme, zeros, tableText, eventsText, statement, sidney, unusedPlace};
+ghost use Rattle.client.specs.Sidney.{afterwards};
+use answer::Answer;
+use programme::contract::Programme;
+use table_text::Reading;
+use year::Opening;
+use year::Standing;
+
+// What a run answers, and the standing that it leaves.
+pub struct After {
+    pub answer: Answer,
+    pub standing: Standing,
+}
+
+// A run that is lent a standing of the client's own.
+pub fn run_lent(programme: Programme, standing: Standing, events: &[u8], buffer: &mut [u8]) -> After
+    ensures { λ r. ⌜ (r
+        ≡ afterOf (runOf programme standing (now (events .entry)) (length (now (buffer .entry)))) standing)
+        × (now (buffer .exit)
+        ≡ bufferAfter (runOf programme standing (now (events .entry)) (length (now (buffer .entry))))
+        (now (buffer .entry))) ⌝ }
+{
+    let mut lent = standing;
+    let answer = cession::cession_run(programme, &mut lent, events, buffer);
+    After {
+        answer,
+        standing: lent,
+    }
+}
+
+// The table read, a year opened, the event run: the statement stands in the buffer before its last byte.
+pub fn run_sidney(table: &[u8], events: &[u8], buffer: &mut [u8]) -> After
+    requires { ⌜ (now table ≡ tableText) × (now events ≡ eventsText) × (now buffer ≡ replicate 444 35) ⌝ }
+    ensures { λ r. ⌜ (r ≡ record { answer = record { refusal = 0; number = 443 }; standing = afterwards })
+        × (now (buffer .exit) ≡ statement ++ (35 ∷ [])) ⌝ }
+{
+    let reading = cession::cession_read(table);
+    let opening = cession::cession_open(reading.programme);
+    run_lent(reading.programme, opening.standing, events, buffer)
+}
+
+// Day 367 after it: 11 at line 1, and standing and buffer as lent.
+pub fn run_refused(
+    programme: Programme,
+    standing: Standing,
+    events: &[u8],
+    buffer: &mut [u8],
+) -> After
+    requires { ⌜ (programme ≡ sidney) × (standing ≡ afterwards) × (now events ≡ bytes "(event 367)\n") ⌝ }
+    ensures { λ r. ⌜ (r ≡ record { answer = record { refusal = 11; number = 1 }; standing = standing })
+        × (now (buffer .exit) ≡ now (buffer .entry)) ⌝ }
+{
+    run_lent(programme, standing, events, buffer)
+}
+
+// The table read and written again, into a buffer with three bytes more.
+pub fn write_sidney(table: &[u8], buffer: &mut [u8]) -> Answer
+    requires { ⌜ (now table ≡ tableText) × (now buffer ≡ replicate 243 35) ⌝ }
+    ensures { λ r. ⌜ (r ≡ record { refusal = 0; number = 240 })
+        × (now (buffer .exit) ≡ tableText ++ (35 ∷ 35 ∷ 35 ∷ [])) ⌝ }
+{
+    let reading = cession::cession_read(table);
+    cession::cession_write(reading.programme, buffer)
+}
+
+// A buffer that is one byte short: 7 and the length needed, and the buffer as lent.
+pub fn write_refused(programme: Programme, buffer: &mut [u8]) -> Answer
+    requires { ⌜ (programme ≡ sidney) × (length (now buffer) ≡ 239) ⌝ }
+    ensures { λ r. ⌜ (r ≡ record { refusal = 7; number = 240 }) × (now (buffer .exit) ≡ now (buffer .entry)) ⌝ }
+{
+    cession::cession_write(programme, buffer)
+}
+
+// A share over the whole in the second line: 3, the line, and the programme without contracts.
+pub fn read_refused(table: &[u8]) -> Reading
+    requires { ⌜ now table
+        ≡ bytes "(risk (band 1 1) (deduct 0) (back 0 0 0) (placed 10000))\n"
+        ++ bytes "(cat (band 1 1) (deduct 0) (back 0 0 0) (placed 10001))\n" ⌝ }
+    ensures { λ r. ⌜ r ≡ record { refusal = 3; line = 2; programme = noProgramme } ⌝ }
+{
+    cession::cession_read(table)
+}
+
+// A programme with a number other than 0 in an unused place: 6, and the standing of a fresh year.
+pub fn open_refused(programme: Programme) -> Opening
+    requires { ⌜ programme ≡ unusedPlace ⌝ }
+    ensures { λ r. ⌜ r ≡ record { refusal = 6; number = 0; standing = record { risk = zeros; cat = zeros; day = 0 } } ⌝ }
+{
+    cession::cession_open(programme)
+}
