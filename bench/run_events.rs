@@ -6,18 +6,18 @@
 #[allow(dead_code)] // of the second calculation only the reading of tables is used here
 mod calculation;
 mod cases;
-#[path = "../tests/years/draw.rs"]
+#[path = "../tests/shared/draw.rs"]
 #[allow(dead_code)] // the tests call the rest
 mod draw;
 mod drawn_years;
-#[path = "../tests/years/random.rs"]
+#[path = "../tests/shared/random.rs"]
 mod random;
 #[path = "../bindings/rust/src/raw.rs"]
 #[allow(dead_code)] // opening and writing are not measured here
 mod raw;
 mod sides;
 mod stack;
-#[path = "../tests/years/totals.rs"]
+#[path = "../tests/shared/totals.rs"]
 #[allow(dead_code)] // the tests call the rest
 mod totals;
 mod yardstick;

@@ -2,23 +2,21 @@
 //! Called as `years PROGRAM SEED COUNT`. Ends with status 1 at the first difference, and when the years of the seed
 //! do not reach all that they should.
 
-#[path = "second/calculation.rs"]
+#[path = "../second/calculation.rs"]
 mod calculation;
-#[path = "years/cases.rs"]
 mod cases;
-#[path = "years/damage.rs"]
+#[path = "../shared/damage.rs"]
 mod damage;
-#[path = "years/draw.rs"]
+#[path = "../shared/draw.rs"]
 mod draw;
-#[path = "second/printed.rs"]
+#[path = "../second/printed.rs"]
 mod printed;
-#[path = "years/random.rs"]
+#[path = "../shared/random.rs"]
 mod random;
-#[path = "years/show.rs"]
+#[path = "../shared/show.rs"]
 mod show;
-#[path = "years/table_damage.rs"]
 mod table_damage;
-#[path = "years/totals.rs"]
+#[path = "../shared/totals.rs"]
 mod totals;
 
 use cases::{Case, Cases, File};

@@ -3,39 +3,29 @@
 //! for one history of the seed. Ends with status 1 at the first difference, and when the histories of the seed do not
 //! reach all that they should.
 
-#[path = "histories/accepted.rs"]
 mod accepted;
-#[path = "histories/aim.rs"]
 mod aim;
-#[path = "histories/boundary.rs"]
 mod boundary;
-#[path = "second/calculation.rs"]
+#[path = "../second/calculation.rs"]
 mod calculation;
-#[path = "histories/corrupt.rs"]
 mod corrupt;
-#[path = "years/damage.rs"]
+#[path = "../shared/damage.rs"]
 mod damage;
-#[path = "years/draw.rs"]
+#[path = "../shared/draw.rs"]
 mod draw;
-#[path = "histories/history.rs"]
 mod history;
-#[path = "histories/in_two.rs"]
 mod in_two;
-#[path = "histories/ledger.rs"]
 mod ledger;
-#[path = "years/random.rs"]
+#[path = "../shared/random.rs"]
 mod random;
-#[path = "../bindings/rust/src/raw.rs"]
+#[path = "../../bindings/rust/src/raw.rs"]
 mod raw;
-#[path = "histories/records.rs"]
 mod records;
-#[path = "histories/runs.rs"]
 mod runs;
-#[path = "years/show.rs"]
+#[path = "../shared/show.rs"]
 mod show;
-#[path = "histories/tally.rs"]
 mod tally;
-#[path = "years/totals.rs"]
+#[path = "../shared/totals.rs"]
 mod totals;
 
 use history::{Difference, History};
