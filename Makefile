@@ -1,11 +1,16 @@
-# Builds the engine for other programs to link, and installs it. rt proves what has changed before anything is built.
+# Builds the engine for other programs to link, tests it and installs it. rt proves what has changed before anything is
+# built.
 #
 #   make              the libraries and the program
+#   make library      the static library, and the shared one made of it
+#   make program      the program
+#   make test         the gate (.ci/run): everything proved from nothing, then tested
 #   make install      puts them under PREFIX with header, command, man page and Python module; builds what is missing
-#                     and leaves what stands
 #   make uninstall    removes what install puts there
+#   make help         this list
 #
 # PREFIX is the folder that all is found under later; DESTDIR is put before it where the files are staged elsewhere.
+# Install leaves what has been built as it stands.
 PREFIX ?= /usr/local
 DESTDIR ?=
 export PREFIX DESTDIR
@@ -15,7 +20,7 @@ command := target/bin/cession_cli
 shared = $(CC) -shared -Wl,--whole-archive $(built)/libcession.a -Wl,--no-whole-archive -Wl,-soname,libcession.so \
 	-o $(built)/libcession.so
 
-.PHONY: all library program install uninstall
+.PHONY: all library program test install uninstall help
 # Two runs of rt on one target/ would get in each other's way.
 .NOTPARALLEL:
 
@@ -30,6 +35,14 @@ library:
 program:
 	@mkdir -p target
 	@rt check cession_cli > target/program.log 2>&1 || { cat target/program.log >&2; exit 1; }
+
+# The gate calls make too, with folders of its own: nothing that this one was given is for those calls.
+test:
+	@env -u MAKEFLAGS -u PREFIX -u DESTDIR bash .ci/run
+
+# The list at the head of this file.
+help:
+	@sed -n 's/^#   //p' $(firstword $(MAKEFILE_LIST))
 
 $(built)/libcession.a:
 	@$(MAKE) --no-print-directory library
