@@ -6,7 +6,7 @@ use crate::damage::{self, Fault};
 use crate::draw::{self, line, Lines, Table};
 use crate::printed::printed;
 use crate::random::Random;
-use crate::table_damage;
+use crate::table_damage::{self, MISPLACED};
 use crate::totals::{has_all, totals};
 
 /// What stands under the name programme.txt.
@@ -108,6 +108,7 @@ impl Cases {
             25 => self.without(),
             26 => self.largest(),
             27 => self.damaged_table(table_damage::ninth),
+            28 => self.misplaced(),
             _ => self.year(),
         }
     }
@@ -147,6 +148,15 @@ impl Cases {
         if self.round % 4 == 1 {
             self.damage(&mut events, damage::form, &[damage::bytes]);
         }
+        text_case(&lines, &events)
+    }
+
+    /// A table with a line behind one of a later kind, and no other fault; each pair of kinds in turn.
+    fn misplaced(&mut self) -> Case {
+        let (table, events) = self.draw(2);
+        let mut lines = table.lines;
+        let (kind, later) = MISPLACED[self.round % MISPLACED.len()];
+        table_damage::misplace(&mut self.random, &mut lines, kind, later);
         text_case(&lines, &events)
     }
 

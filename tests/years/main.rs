@@ -16,72 +16,17 @@ mod random;
 #[path = "../shared/show.rs"]
 mod show;
 mod table_damage;
+mod tally;
 #[path = "../shared/totals.rs"]
 mod totals;
 
 use cases::{Case, Cases, File};
 use show::shown;
-use std::collections::BTreeMap;
 use std::io::{self, Write};
 use std::path::{Path, PathBuf};
 use std::process::{exit, Command, Stdio};
 use std::{env, fs};
-
-/// The refusals that the program can show.
-const REFUSALS: [u64; 13] = [0, 1, 2, 3, 4, 5, 7, 9, 10, 11, 12, 13, 14];
-
-/// Of a hundred years, how many have cessions, recoveries of both tiers and premium.
-const LEAST_FULL_YEARS: usize = 40;
-
-/// What the years compared so far have reached.
-#[derive(Default)]
-struct Tally {
-    compared: usize,
-    accepted: usize,
-    refused: BTreeMap<u64, usize>,
-    ceded: usize,
-    risk: usize,
-    cat: usize,
-    premium: usize,
-    all: usize,
-}
-
-impl Tally {
-    fn count(&mut self, printed: &[u8]) {
-        self.compared += 1;
-        let Some(amounts) = totals::totals(printed) else {
-            let text = String::from_utf8_lossy(printed);
-            let refusal = text.split(' ').nth(1).and_then(|number| number.parse().ok());
-            *self.refused.entry(refusal.unwrap_or(u64::MAX)).or_default() += 1;
-            return;
-        };
-        self.accepted += 1;
-        self.ceded += usize::from(amounts[1] > 0);
-        self.risk += usize::from(amounts[2] > 0);
-        self.cat += usize::from(amounts[3] > 0);
-        self.premium += usize::from(amounts[5] > 0);
-        self.all += usize::from(totals::has_all(&amounts));
-    }
-
-    fn print(&self, seed: u64) {
-        print!("years: seed {seed}, {} compared: accepted {}", self.compared, self.accepted);
-        for (refusal, count) in &self.refused {
-            print!(", {refusal}: {count}");
-        }
-        print!("; above 0: ceded {}, risk {}, cat {}, premium {}", self.ceded, self.risk, self.cat, self.premium);
-        println!(", all four {}", self.all);
-    }
-
-    /// What the years should have reached and did not.
-    fn missing(&self) -> Vec<String> {
-        let unseen = REFUSALS.iter().filter(|refusal| !self.refused.contains_key(refusal));
-        let mut missing: Vec<String> = unseen.map(|refusal| format!("no year refused with {refusal}")).collect();
-        if self.all * 100 < self.compared * LEAST_FULL_YEARS {
-            missing.push("too few years with cessions, recoveries of both tiers and premium".to_string());
-        }
-        missing
-    }
-}
+use tally::Tally;
 
 /// Puts the case's texts into the folder.
 fn lay_out(folder: &Path, case: &Case) -> io::Result<()> {
@@ -164,7 +109,7 @@ fn main() -> io::Result<()> {
             report(&folder, &case, &expected, &found);
             exit(1);
         }
-        tally.count(&expected);
+        tally.count(case.table(), &expected);
     }
     fs::remove_dir_all(&folder)?;
     tally.print(seed);

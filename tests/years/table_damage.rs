@@ -4,14 +4,68 @@ use crate::damage::{form, number_at, range, replace_number, Fault};
 use crate::draw::{line, Lines, LARGEST_AMOUNT};
 use crate::random::Random;
 
+/// The kinds of a table's lines, in the order in which they stand.
+#[derive(Clone, Copy, Debug, PartialEq, Eq)]
+pub enum Kind {
+    Treaty,
+    Risk,
+    Cat,
+}
+
+/// Each kind behind each later one.
+pub const MISPLACED: [(Kind, Kind); 3] =
+    [(Kind::Treaty, Kind::Risk), (Kind::Treaty, Kind::Cat), (Kind::Risk, Kind::Cat)];
+
+/// The kind of a line by its first word, if it has one.
+pub fn kind_of(line: &[u8]) -> Option<Kind> {
+    match line.split(|byte| *byte == b' ').next() {
+        Some(b"(quota" | b"(surplus") => Some(Kind::Treaty),
+        Some(b"(risk") => Some(Kind::Risk),
+        Some(b"(cat") => Some(Kind::Cat),
+        _ => None,
+    }
+}
+
+fn is_layer(line: &[u8]) -> bool {
+    matches!(kind_of(line), Some(Kind::Risk | Kind::Cat))
+}
+
 /// Refusal 4: a kind out of order, a treaty number that does not rise.
 pub fn order(random: &mut Random, lines: &mut Lines, place: usize) {
     match random.between(0, 3) {
         0 => lines.insert(place, lines[place].clone()),
         1 => lines.insert(0, lines[0].clone()),
-        2 => lines.push(line("(quota 8 (cede 1) (capacity 1) (event 1))".to_string())),
-        _ => lines.push(line("(risk (band 0 1) (deduct 0) (back 0 0 0) (placed 1))".to_string())),
+        _ => {
+            let (kind, later) = random.pick(&MISPLACED);
+            misplace(random, lines, kind, later);
+        }
     }
+}
+
+/// A line for a table that has none of the kind.
+fn plain(kind: Kind) -> Vec<u8> {
+    let text = match kind {
+        Kind::Treaty => "(quota 8 (cede 1) (capacity 1) (event 1))",
+        Kind::Risk => "(risk (band 0 1) (deduct 0) (back 0 0 0) (placed 1))",
+        Kind::Cat => "(cat (band 0 1) (deduct 0) (back 0 0 0) (placed 1))",
+    };
+    line(text.to_string())
+}
+
+/// Refusal 4: the last line of a kind behind some line of a later kind, where its kind alone is out of order. A table
+/// without a line of the one or of the other is given one.
+pub fn misplace(random: &mut Random, lines: &mut Lines, kind: Kind, later: Kind) {
+    let is_of = |kind: Kind| move |line: &Vec<u8>| kind_of(line) == Some(kind);
+    let moved = match lines.iter().rposition(is_of(kind)) {
+        Some(place) => lines.remove(place),
+        None => plain(kind),
+    };
+    if !lines.iter().any(is_of(later)) {
+        let end = lines.iter().position(is_of(Kind::Cat)).unwrap_or(lines.len());
+        lines.insert(end, plain(later));
+    }
+    let places: Vec<usize> = (0..lines.len()).filter(|place| is_of(later)(&lines[*place])).collect();
+    lines.insert(random.pick(&places) + 1, moved);
 }
 
 /// Refusal 4: a ninth layer of a tier, which may have an attachment too low as well.
@@ -19,7 +73,7 @@ pub fn ninth(random: &mut Random, lines: &mut Lines, _: usize) {
     let tier = random.pick(&["risk", "cat"]);
     let low = LARGEST_AMOUNT - 9;
     let layer = |attachment| line(format!("({tier} (band {attachment} 1) (deduct 0) (back 0 0 0) (placed 1))"));
-    lines.retain(|text| !text.starts_with(b"(cat") && !text.starts_with(b"(risk"));
+    lines.retain(|text| !is_layer(text));
     lines.extend((low..low + 8).map(layer));
     if !random.one_in(4) {
         lines.push(layer(random.pick(&[0, low + 7, low + 8])));
@@ -28,7 +82,6 @@ pub fn ninth(random: &mut Random, lines: &mut Lines, _: usize) {
 
 /// Refusal 5: an attachment below the end of the band before, or just at it.
 pub fn band(random: &mut Random, lines: &mut Lines, place: usize) {
-    let is_layer = |line: &Vec<u8>| line.starts_with(b"(risk") || line.starts_with(b"(cat");
     let Some(place) = (place..lines.len()).find(|place| is_layer(&lines[*place])) else {
         return;
     };

@@ -1,0 +1,86 @@
+//! What the years compared so far have reached.
+
+use crate::table_damage::{kind_of, MISPLACED};
+use crate::totals::{has_all, numbers, totals};
+use std::collections::BTreeMap;
+
+/// The refusals that the program can show.
+const REFUSALS: [u64; 13] = [0, 1, 2, 3, 4, 5, 7, 9, 10, 11, 12, 13, 14];
+
+/// Of a hundred years, how many have cessions, recoveries of both tiers and premium.
+const LEAST_FULL_YEARS: usize = 40;
+
+#[derive(Default)]
+pub struct Tally {
+    compared: usize,
+    accepted: usize,
+    refused: BTreeMap<u64, usize>,
+    /// Tables refused with 4 for a line behind one of a later kind, by the pair of kinds.
+    misplaced: [usize; MISPLACED.len()],
+    ceded: usize,
+    risk: usize,
+    cat: usize,
+    premium: usize,
+    all: usize,
+}
+
+/// The pairs of kinds in words.
+fn misplaced_names() -> impl Iterator<Item = String> {
+    MISPLACED.iter().map(|(kind, later)| format!("{kind:?} after {later:?}").to_lowercase())
+}
+
+impl Tally {
+    pub fn count(&mut self, table: Option<&[u8]>, printed: &[u8]) {
+        self.compared += 1;
+        let Some(amounts) = totals(printed) else {
+            return self.count_refusal(table.unwrap_or_default(), printed);
+        };
+        self.accepted += 1;
+        self.ceded += usize::from(amounts[1] > 0);
+        self.risk += usize::from(amounts[2] > 0);
+        self.cat += usize::from(amounts[3] > 0);
+        self.premium += usize::from(amounts[5] > 0);
+        self.all += usize::from(has_all(&amounts));
+    }
+
+    fn count_refusal(&mut self, table: &[u8], printed: &[u8]) {
+        let answer = numbers(&String::from_utf8_lossy(printed));
+        let [refusal, second] = answer[..] else { return };
+        *self.refused.entry(refusal).or_default() += 1;
+        if refusal == 4 {
+            self.count_misplaced(table, second as usize);
+        }
+    }
+
+    /// The line at fault, counted from 1, is never the first.
+    fn count_misplaced(&mut self, table: &[u8], line: usize) {
+        let mut kinds = table.split(|byte| *byte == b'\n').map(kind_of).skip(line - 2);
+        let (before, found) = (kinds.next().flatten(), kinds.next().flatten());
+        for (count, (kind, later)) in self.misplaced.iter_mut().zip(MISPLACED) {
+            *count += usize::from(found == Some(kind) && before == Some(later));
+        }
+    }
+
+    pub fn print(&self, seed: u64) {
+        print!("years: seed {seed}, {} compared: accepted {}", self.compared, self.accepted);
+        for (refusal, count) in &self.refused {
+            print!(", {refusal}: {count}");
+        }
+        print!("; above 0: ceded {}, risk {}, cat {}, premium {}", self.ceded, self.risk, self.cat, self.premium);
+        println!(", all four {}", self.all);
+        let counts = misplaced_names().zip(self.misplaced).map(|(name, count)| format!("{name} {count}"));
+        println!("years: out of order: {}", counts.collect::<Vec<String>>().join(", "));
+    }
+
+    /// What the years should have reached and did not.
+    pub fn missing(&self) -> Vec<String> {
+        let unseen = REFUSALS.iter().filter(|refusal| !self.refused.contains_key(refusal));
+        let mut missing: Vec<String> = unseen.map(|refusal| format!("no year refused with {refusal}")).collect();
+        let unplaced = misplaced_names().zip(self.misplaced).filter(|(_, count)| *count == 0);
+        missing.extend(unplaced.map(|(name, _)| format!("no table with a {name}")));
+        if self.all * 100 < self.compared * LEAST_FULL_YEARS {
+            missing.push("too few years with cessions, recoveries of both tiers and premium".to_string());
+        }
+        missing
+    }
+}
