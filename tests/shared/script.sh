@@ -37,3 +37,12 @@ compare_examples() {
     done
     echo "examples: $count compared with $(basename "$1")"
 }
+
+# An events text of $1 bytes without losses, in as many lines as that length can have: lines of 10 bytes, the last few
+# of 11. Their days rise.
+idle_events() {
+    local longer=$(($1 % 10)) i
+    local shorter=$((($1 - 11 * longer) / 10))
+    for ((i = 0; i < shorter; i++)); do echo "(event $((1 + 9 * i / shorter)))"; done
+    for ((i = 0; i < longer; i++)); do echo "(event $((10 + i)))"; done
+}
