@@ -10,7 +10,7 @@
 #include <string.h>
 
 #define NUMBER "%" PRIu64
-#define MOST 1000000
+#define MOST 2000000
 
 static uint8_t text[MOST];
 static uint8_t buffer[MOST];
