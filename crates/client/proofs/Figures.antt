@@ -122,7 +122,7 @@ module _ {t : List ℕ} {r : Reading} (a : t ≡ tableText) (b : r ≡ readOf t)
     run-bytes g = rw (programme-is, standing-is, e, f) at g ∙ figures .ran-bytes
 
 -- a buffer that is one byte short
-module _ {p : Programme} {d : List ℕ} (a : p ≡ sidney) (b : length d ≡ 239) where
+module _ {p : Programme} (d : List ℕ) (a : p ≡ sidney) (b : length d ≡ 239) where
   pub short-answer : {n : Answer} → n ≡ answerOf (writeOf p (length d)) → n ≡ record { refusal = 7; number = 240 }
   short-answer f = rw (a, b, figures .not-written) at f
 
@@ -130,14 +130,14 @@ module _ {p : Programme} {d : List ℕ} (a : p ≡ sidney) (b : length d ≡ 239
   short-bytes f = rw (a, b, figures .not-written) at f
 
 -- a day out of range
-module _ {p : Programme} {h : Standing} {s d : List ℕ} (a : p ≡ sidney) (b : h ≡ afterwards)
+module _ {p : Programme} {h : Standing} {s : List ℕ} (a : p ≡ sidney) (b : h ≡ afterwards)
     (c : s ≡ bytes "(event 367)\n") where
   refused-is : (room : ℕ) → runOf p h s room ≡ refused 11 1
   refused-is room = rw (a, b, c) (figures .not-run room)
 
-  pub refused-after : {x : After} → x ≡ afterOf (runOf p h s (length d)) h
+  pub refused-after : (d : List ℕ) {x : After} → x ≡ afterOf (runOf p h s (length d)) h
       → x ≡ record { answer = record { refusal = 11; number = 1 }; standing = h }
-  refused-after f = rw (refused-is (length d)) at f
+  refused-after d f = rw (refused-is (length d)) at f
 
-  pub refused-bytes : {d′ : List ℕ} → d′ ≡ bufferAfter (runOf p h s (length d)) d → d′ ≡ d
-  refused-bytes f = rw (refused-is (length d)) at f
+  pub refused-bytes : (d : List ℕ) {d′ : List ℕ} → d′ ≡ bufferAfter (runOf p h s (length d)) d → d′ ≡ d
+  refused-bytes d f = rw (refused-is (length d)) at f
