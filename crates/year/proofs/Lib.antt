@@ -2,6 +2,7 @@ pub mod Treaties
 pub mod Layers
 pub mod Balance
 pub mod Parts
+pub mod StatementsTell
 pub mod Shown
 pub mod Size
 pub mod StatementLayout
@@ -16,7 +17,6 @@ pub mod EqualHistories
 pub mod EveryHistory
 pub mod NetExact
 pub mod TwoRuns
-pub mod StatementsTell
 pub mod Checked
 pub mod Examples
 pub mod Corners

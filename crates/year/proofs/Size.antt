@@ -21,7 +21,7 @@ use Rattle.year.specs.Event.{Year}
 use Rattle.year.specs.Statement.{layerLineOf, treatyLineOf, Line, treatyTemplate, riskTemplate, catTemplate}
 use Rattle.year.specs.Statement.{treatyShown, layersShown, totalShown, totals, statementOf, statementText}
 use Rattle.year.specs.Statement.{layerNumbers}
-use Rattle.year.proofs.Shown.{textOf}
+use Rattle.year.proofs.StatementsTell.{textOf}
 
 -- a template that prints at most 160 bytes with numbers of at most sixteen digits
 abbrev ShortTemplate : List ℕ → Type 0
