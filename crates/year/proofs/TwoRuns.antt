@@ -1,6 +1,6 @@
 -- One accepted text, and the same text cut into two runs at the end of any line: the standing left is the same, the
 -- event lines of the two statements are those of the one, the layers' lines of the second are its layers' lines,
--- and the totals add up to its totals.
+-- the treaties' lines add up line by line to its treaties' lines, and the totals add up to its totals.
 -- Assumes nothing.
 use mathlib.Core.Path.{_≡_, refl, sym, _∙_, ap, ap₂, subst}
 use mathlib.Core.List.{List, [], _∷_, _++_, map}
@@ -16,11 +16,13 @@ use Rattle.events.proofs.Reading.{Cut, read-cut, read-days}
 use Rattle.year.specs.declared.Standing.{Standing}
 use Rattle.year.specs.Tiers.{Tiers}
 use Rattle.year.specs.Event.{Year, yearAfter}
-use Rattle.year.specs.Statement.{Statement, LayerLine, layerLineOf, eventLines, added, totals, statementText}
+use Rattle.year.specs.Statement.{Statement, LayerLine, layerLineOf, treatyLineOf, eventLines, added, totals}
+use Rattle.year.specs.Statement.{statementText}
 use Rattle.year.specs.Standing.{standingOf, yearOf}
 use Rattle.year.specs.Run.{accepted, runOf}
 use Rattle.year.proofs.Layers.{Under, under-events, year-loads, year-passes, standing-under}
 use Rattle.year.proofs.Parts.{year-append, event-lines-append, totals-append}
+use Rattle.year.proofs.Parts.{numbersIn, lineByLine, treaty-lines-append, same-numbers}
 use Rattle.year.proofs.Running.{Passed, statementFrom, standingFrom, passed-runs, was-accepted}
 
 -- the text a ++ b, accepted from the standing s with the statement `whole` and the standing `end`, run in two
@@ -31,6 +33,8 @@ pub record InTwo (p : Programme) (s : Standing) (a b : List ℕ) (whole : Statem
   pub first-run : (room : ℕ) → length (statementText first) ≤ room → runOf p s a room ≡ accepted first middle
   pub second-run : (room : ℕ) → length (statementText second) ≤ room → runOf p middle b room ≡ accepted second end
   pub lines : whole .events ≡ first .events ++ second .events
+  pub treaties : whole .treaties ≡ lineByLine (first .treaties) (second .treaties)
+  pub numbers : numbersIn (first .treaties) ≡ numbersIn (second .treaties)
   pub layers : whole .layers ≡ second .layers
   pub total : whole .total ≡ added (first .total ∷ second .total ∷ [])
 
@@ -53,6 +57,9 @@ module _ (p : Programme) (s : Standing) (a b : List ℕ) (w : WholeLines a) wher
         })
         ∙ ap (accepted (statementFrom c middle (k .second))) ends;
     lines = lines;
+    treaties = ap (λ (fs : List Event). map (treatyLineOf fs) ts) (k .together)
+        ∙ treaty-lines-append (k .first) (k .second) ts;
+    numbers = same-numbers (k .first) (k .second) ts;
     layers = ap layersOf (ap (yearAfter ts (yearOf c s)) (k .together)
         ∙ year-append ts (yearOf c s) (k .first) (k .second)
         ∙ ap (λ (z : Year). yearAfter ts z (k .second)) (sym loads));
