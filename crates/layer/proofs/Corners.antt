@@ -7,8 +7,8 @@ use Rattle.arith.specs.Round.{rounded}
 use Rattle.layer.specs.declared.terms.Terms.{Terms}
 use Rattle.layer.specs.declared.record.Layer.{Layer}
 use Rattle.layer.specs.Layer.{termsOf, broughtBy, deductibleLeftOf, coverLeftOf, recoveredOf, premiumOf}
-use Rattle.layer.specs.Layer.{layerOf, placedOf, recoveryOf, recoveriesOf, afterSubject}
-use Rattle.layer.specs.Tier.{recoveriesBy, layersAfter}
+use Rattle.layer.specs.Layer.{layerOf, placedOf, recoveryOf, chargeOf, recoveriesOf, chargesOf, afterSubject}
+use Rattle.layer.specs.Tier.{recoveriesBy, layersAfter, chargesThrough}
 
 -- what a statement shows of a layer: deductible left, cover left, recovered, premium
 abbrev shown : Layer → List ℕ
@@ -22,6 +22,12 @@ spentOf y = y .spent .0
 -- two layers of one tier
 abbrev pair : List Layer
 pair = layerOf (termsOf 10 40 0 0 0 0 3333) 0 ∷ layerOf (termsOf 50 100 0 0 0 0 7200) 0 ∷ []
+
+-- three layers of one tier, with premiums of 3 / 7, 8 / 9 and 7 / 8 of B
+abbrev three : List Layer
+three =
+    layerOf (termsOf 500 700 200 2 4000 750 3333) 0 ∷ layerOf (termsOf 1200 900 150 1 8000 1000 7201) 0
+    ∷ layerOf (termsOf 2100 600 0 2 7500 700 9999) 0 ∷ []
 
 -- the largest terms of the table
 abbrev largest : Terms
@@ -46,6 +52,18 @@ pub record Corners : Type 0 where
   pub nothing-placed : shown (layerOf (termsOf 0 100 0 1 10000 1000 0) 150) ≡ 0 ∷ 50 ∷ 0 ∷ 0 ∷ []
   -- the premium's B is rounded first: 3,333 bp of 5 is 1, and 1 × 5,000 × 100 / 70,000 is 7.14
   pub premium-of-placed : premiumOf (termsOf 0 7 0 1 5000 100 3333) 5 ≡ 7
+  -- and nothing is divided before the last product: 7,201 bp of 205 and of 212 are 147 and 152, of which 169 / 19 are
+  -- 1307.53 and 1352
+  pub premium-divided-last : map (premiumOf (termsOf 60 190 35 2 13000 1300 7201)) (240 ∷ 247 ∷ []) ≡ 1307 ∷ 1352 ∷ []
+  -- Premiums of losses in turn: used is 154, 872 and 1,828, reinstated 154, 872 and 1,300, B 110, 627 and 936, and
+  -- 12 / 13 of it 101.54, 578.77 and 864.
+  pub charged-in-turn : chargesOf (layerOf (termsOf 800 1300 250 1 8000 1500 7201) 0) (404 ∷ 718 ∷ 956 ∷ [])
+      ≡ 101 ∷ 477 ∷ 286 ∷ []
+  -- Premiums of amounts in turn through a tier. After the first the layers have charged 71, 198 and 0; after the second
+  -- 171, 576 and 480; after the third 199, 576 and 727.
+  pub charged-by-tier : map (λ (xs : List ℕ). chargesThrough xs three)
+      ((1660 ∷ []) ∷ (1660 ∷ 2650 ∷ []) ∷ (1660 ∷ 2650 ∷ 2382 ∷ []) ∷ [])
+      ≡ 269 ∷ 1227 ∷ 1502 ∷ []
   -- every term at its largest, at the cap
   pub most : shown (layerOf largest 1210000000000000) ≡ 0 ∷ 0 ∷ 210000000000000 ∷ 40000000000000 ∷ []
   -- one subject of 120 to bands 10 40 and 50 100: both look at all of it; 3,333 bp of 40 is 13, 7,200 bp of 70 is 50
@@ -59,7 +77,7 @@ pub record Corners : Type 0 where
       ∷ (0 ∷ 200000000 ∷ 72000000 ∷ 14400000 ∷ []) ∷ []
 
 pub corners : Corners
-unfolding placedOf recoveredOf premiumOf recoveryOf rounded
+unfolding placedOf recoveredOf premiumOf recoveryOf chargeOf rounded
 corners = record {
   brought = refl;
   unspent = refl;
@@ -71,6 +89,9 @@ corners = record {
   no-reinstatement = refl;
   nothing-placed = refl;
   premium-of-placed = refl;
+  premium-divided-last = refl;
+  charged-in-turn = refl;
+  charged-by-tier = refl;
   most = refl;
   one-subject = refl;
   one-subject-recovered = refl;
