@@ -6,6 +6,7 @@ pub mod StatementsTell
 pub mod Shown
 pub mod Size
 pub mod StatementLayout
+pub mod Worked
 pub mod Cutting
 pub mod Books
 pub mod Running

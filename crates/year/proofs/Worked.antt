@@ -1,0 +1,64 @@
+-- A statement worked by hand: two events of three losses each, under two treaties, two risk layers and two catastrophe
+-- layers.
+-- Assumes nothing.
+use mathlib.Core.Path.{_≡_, refl}
+use mathlib.Core.List.{List, [], _∷_}
+use Rattle.arith.specs.Round.{rounded}
+use Rattle.treaty.specs.declared.Treaty.{Treaty}
+use Rattle.treaty.specs.Treaty.{quotaOf, surplusOf, lossOf, coveredPart, cededByQuota, cededBySurplus, cededOf}
+use Rattle.treaty.specs.Treaty.{cededOfLoss}
+use Rattle.treaty.specs.Losses.{cededIn}
+use Rattle.layer.specs.Layer.{termsOf, layerOf, placedOf, recoveredOf, premiumOf, recoveryOf, chargeOf}
+use Rattle.events.specs.Event.{Event}
+use Rattle.year.specs.Event.{Year, subjectOf}
+use Rattle.year.specs.Statement.{Statement, statementOf}
+
+abbrev treaties : List Treaty
+treaties = quotaOf 4 3333 0 3700 ∷ surplusOf 6 900 3 0 ∷ []
+
+-- premiums of 3 / 7 and 8 / 9, of 87 / 110 and 99 / 80 of B
+abbrev year : Year
+year = record {
+  risk =
+      layerOf (termsOf 500 700 200 2 4000 750 3333) 0 ∷ layerOf (termsOf 1200 900 150 2 8000 1000 7201) 0 ∷ [];
+  cat =
+      layerOf (termsOf 1300 1100 250 1 6000 1450 9999) 0 ∷ layerOf (termsOf 2500 800 0 1 9000 1100 7201) 0 ∷ [];
+}
+
+-- Of the first event's losses the treaties leave 1,736, 1,660 and 822, for the event limit leaves 1,097 of the last
+-- covered, and the risk layers 1,293, 1,095 and 714; of the second's 2,382, 2,347 and 200, and 1,542, 1,699 and 200.
+-- The catastrophe layers' subjects are 3,102 and 3,441.
+abbrev events : List Event
+events =
+    record { day = 17; losses = lossOf 4 9000 2603 ∷ lossOf 0 2000 1660 ∷ lossOf 4 1500 1187 ∷ [] }
+    ∷ record { day = 203; losses = lossOf 0 5000 2382 ∷ lossOf 4 6000 3519 ∷ lossOf 6 2750 611 ∷ [] } ∷ []
+
+-- The premiums after each event: 199 and 541, 671 and 535; 199 and 1,152, 869 and 712.
+abbrev shown : Statement
+shown = record {
+  events =
+      record {
+        day = 17;
+        amounts = record { gross = 5450; ceded = 1232; risk = 1116; cat = 1282; net = 1820; premium = 1946 };
+      }
+      ∷ record {
+        day = 203;
+        amounts = record { gross = 6512; ceded = 1583; risk = 1488; cat = 1676; net = 1765; premium = 986 };
+      } ∷ [];
+  treaties = record { number = 4; ceded = 2404 } ∷ record { number = 6; ceded = 411 } ∷ [];
+  layers = record {
+    risk =
+        record { deductible = 0; cover = 0; recovered = 699; premium = 199 }
+        ∷ record { deductible = 0; cover = 54; recovered = 1905; premium = 1152 } ∷ [];
+    cat =
+        record { deductible = 0; cover = 250; recovered = 1949; premium = 869 }
+        ∷ record { deductible = 0; cover = 198; recovered = 1009; premium = 712 } ∷ [];
+  };
+  total = record { gross = 11962; ceded = 2815; risk = 2604; cat = 2958; net = 3585; premium = 2932 };
+}
+
+pub worked : statementOf treaties year events ≡ shown
+unfolding
+    rounded coveredPart cededByQuota cededBySurplus cededOf cededOfLoss cededIn placedOf recoveredOf premiumOf
+    recoveryOf chargeOf subjectOf
+worked = refl
