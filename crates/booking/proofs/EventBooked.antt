@@ -198,7 +198,8 @@ left-count ts earlier (x ∷ xs) = omega (arith, left-count ts (earlier ++ (x �
 
 -- The losses of an event went through their treaties. What is left of each stands at the front of l, which had 64
 -- noughts.
-module _ {p : Progress} {table : ByNumber} {ns cs : List ℕ} (h : CanBook p table ns cs) {c : ByTreaties} {l cs′ : List ℕ}
+module _ {p : Progress} {table : ByNumber} {ns cs : List ℕ} (h : CanBook p table ns cs)
+    {c : ByTreaties} {l cs′ : List ℕ}
     (k : (ts : List Treaty) → table .places ≡ numbered ts
     → AfterTreaties ts (lossesFrom ns) cs cs′ c
     × (l ≡ sets (replicate 64 0) 0 (leftOfEach ts [] (lossesFrom ns)))) where

@@ -114,9 +114,9 @@ impl Progress {
         }
     }
 
-    // The progress after an event, from what the treaties cede of it and what they leave, loss by loss. Each in turn is
-    // the subject of the risk layers; what these leave of all is the subject of the catastrophe layers. The numbers of
-    // its line are kept.
+    // The progress after an event, from what the treaties cede of it and what they leave, loss by loss. Each in turn
+    // is the subject of the risk layers; what these leave of all is the subject of the catastrophe layers. The
+    // numbers of its line are kept.
     fn enter(self, day: u64, treaties: ByTreaties, left: &[u64], kept: &mut [u64]) -> Progress
         requires { ⌜ CanEnter self treaties (now left) ⌝ }
         ensures { λ r. ⌜ ((ts : List Treaty) (xs : List Loss) (cs cs′ : List ℕ)

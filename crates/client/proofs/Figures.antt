@@ -13,7 +13,7 @@ use Rattle.treaty.specs.Treaty.{coveredPart, cededByQuota, cededBySurplus, cede
 use Rattle.treaty.specs.Losses.{cededIn}
 use Rattle.layer.specs.Layer.{placedOf, recoveredOf, premiumOf, recoveryOf, chargeOf}
 use Rattle.answer.specs.declared.Answer.{Answer}
-use Rattle.answer.specs.Outcome.{Outcome, refused, fitted, answerOf, bufferAfter}
+use Rattle.answer.specs.Outcome.{refused, fitted, answerOf, bufferAfter}
 use Rattle.programme.specs.declared.contract.Programme.{Programme}
 use Rattle.programme.specs.Ranges.{outside, treatyOutside, termsOutside, treatyNotZero, termsNotZero}
 use Rattle.programme.specs.Rules.{treatyFault, layerFault}
@@ -30,7 +30,7 @@ use Rattle.year.specs.declared.Opening.{Opening}
 use Rattle.year.specs.Event.{subjectOf}
 use Rattle.year.specs.Statement.{statementText}
 use Rattle.year.specs.Standing.{openOf, standingPasses}
-use Rattle.year.specs.Run.{Left, runFrom, runOf, standingAfter}
+use Rattle.year.specs.Run.{runFrom, runOf, standingAfter}
 use Rattle.client.specs.declared.After.{After}
 use Rattle.client.specs.After.{afterOf}
 use Rattle.client.specs.Sidney.{noProgramme, zeros, tableText, eventsText, statement, sidney, unusedPlace}

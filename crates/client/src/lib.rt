@@ -1,5 +1,5 @@
-// A client of the public calls alone. It reads and writes the table of H1, opens its year and runs its event, and makes
-// calls that are turned down. What each answers and leaves is typed out, and follows from the calls' contracts.
+// A client of the public calls alone. It reads and writes the table of H1, opens its year and runs its event, and
+// makes calls that are turned down. What each answers and leaves is typed out, and follows from the calls' contracts.
 ghost use mathlib.Core.Path.{_≡_};
 ghost use mathlib.Core.List.{[], _∷_, _++_};
 ghost use lib.ListN.{length, replicate};
@@ -93,7 +93,8 @@ pub fn read_refused(table: &[u8]) -> Reading
 // A programme with a number other than 0 in an unused place: 6, and the standing of a fresh year.
 pub fn open_refused(programme: Programme) -> Opening
     requires { ⌜ programme ≡ unusedPlace ⌝ }
-    ensures { λ r. ⌜ r ≡ record { refusal = 6; number = 0; standing = record { risk = zeros; cat = zeros; day = 0 } } ⌝ }
+    ensures { λ r. ⌜ r
+        ≡ record { refusal = 6; number = 0; standing = record { risk = zeros; cat = zeros; day = 0 } } ⌝ }
 {
     cession::cession_open(programme)
 }

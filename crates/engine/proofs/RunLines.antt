@@ -254,7 +254,8 @@ module _ {p : Programme} {s : Standing} {text d₀ : List ℕ} (can : CanRun 655
 
             pub states : (b b′ : List ℕ) (x : Ran)
                 → ((t : Statement) → Shows t (take end d′) counts
-                → (x ≡ ranOf (statementFitted (length b) t after) s) × (b′ ≡ bufferAfter (statementFitted (length b) t after) b))
+                → (x ≡ ranOf (statementFitted (length b) t after) s)
+                × (b′ ≡ bufferAfter (statementFitted (length b) t after) b))
                 → (x ≡ ranOf (runLines p s text (length b)) s)
                 × (b′ ≡ bufferAfter (runLines p s text (length b)) b)
             states b b′ x w = rw (outcome (length b)) (w shown shows)

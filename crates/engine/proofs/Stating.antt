@@ -2,7 +2,7 @@
 -- Assumes nothing.
 use mathlib.Core.Path.{_≡_, refl, sym, ap, _∙_, subst}
 use mathlib.Core.List.{List, [], _∷_, _++_, map, append-assoc}
-use Prim.Native.Nat.{ℕ, _+_, _*_, _≤_, _<_}
+use Prim.Native.Nat.{ℕ, zero, suc, _+_, _*_, _≤_, _<_}
 use native.Mathlib.Nat.{add-zero}
 use native.Mathlib.Omega.{arith}
 use lib.ListN.{length, getD, replicate}
@@ -14,7 +14,6 @@ use Rattle.treaty.specs.declared.Treaty.{Treaty}
 use Rattle.treaty.specs.Treaty.{cessions}
 use Rattle.treaty.proofs.Losses.{Numbered}
 use Rattle.events.specs.Event.{Event}
-use Rattle.events.proofs.LineParts.{zero-at}
 use Rattle.year.specs.Event.{Year}
 use Rattle.year.specs.Statement.{TreatyLine, Statement, amountsNumbers}
 use Rattle.year.specs.Statement.{cededBy, treatyLineOf, layerLineOf, statementOf, eventShown, treatyShown, layersShown}
@@ -44,6 +43,12 @@ pub through-length : (ts : List Treaty) (cs : List ℕ) (es : List Event) → le
 through-length ts cs [] = refl
 through-length ts cs (e ∷ es) =
     through-length ts (cededAdded ts [] cs (e .losses)) es ∙ added-length ts [] cs (e .losses)
+
+-- amounts of 0 hold 0 in every place
+zero-at : (k i : ℕ) → getD {A = ℕ} (replicate k 0) i 0 ≡ 0
+zero-at zero i = refl
+zero-at (suc k) zero = refl
+zero-at (suc k) (suc i) = zero-at k i
 
 -- a treaty's place gains what it cedes of the events
 through-at : (n : ℕ) (before : List Treaty) (t : Treaty) (after : List Treaty) → Numbered n (before ++ (t ∷ after))

@@ -83,7 +83,8 @@ fn write_measured(
 ) -> Ran
     requires { ⌜ Fits (now numbers) counts ⌝ }
     ensures { λ r. ⌜ ((t : Statement) → Shows t (now (numbers .entry)) counts
-        → RanAs (statementFitted (length (now (buffer .entry))) t after) lent (now (buffer .entry)) (now (buffer .exit)) r) ⌝ }
+        → RanAs (statementFitted (length (now (buffer .entry))) t after) lent
+        (now (buffer .entry)) (now (buffer .exit)) r) ⌝ }
 {
     let needed = print::measure(numbers, counts);
     if buffer.len() < needed {
@@ -98,7 +99,8 @@ fn write_measured(
 fn write(numbers: &[u64], counts: Counts, lent: Standing, after: Standing, buffer: &mut [u8]) -> Ran
     requires { ⌜ Fits (now numbers) counts ⌝ }
     ensures { λ r. ⌜ ((t : Statement) → Shows t (now (numbers .entry)) counts
-        → RanAs (statementFitted (length (now (buffer .entry))) t after) lent (now (buffer .entry)) (now (buffer .exit)) r) ⌝ }
+        → RanAs (statementFitted (length (now (buffer .entry))) t after) lent
+        (now (buffer .entry)) (now (buffer .exit)) r) ⌝ }
 {
     let lines = counts.events + counts.treaties + counts.risk + counts.cat + 1;
     if print::LONGEST_LINE * lines <= buffer.len() {

@@ -4,11 +4,11 @@ use mathlib.Core.Path.{_≡_, refl, sym, ap, _∙_}
 use mathlib.Core.Bool.{Bool, true, false}
 use mathlib.Core.List.{List, [], _∷_}
 use mathlib.Core.Option.{Option, none, some}
-use Prim.Native.Nat.{ℕ, zero, suc, _+_, _-_, _≤_, _<_}
+use Prim.Native.Nat.{ℕ, suc, _+_, _-_, _≤_, _<_}
 use native.Mathlib.Omega.{arith}
 use borrow.Author.Tests.{eq-eqb, ne-eqb}
 use lib.Dec.{eqb, lit<}
-use lib.ListN.{length, drop, getD, replicate, length-drop, drop-of-length-le}
+use lib.ListN.{length, drop, getD, length-drop, drop-of-length-le}
 use lib.Seq.{drop-cons}
 use Rattle.text.specs.Begin.{begins, Stands}
 use Rattle.text.specs.Bytes.{bytes}
@@ -27,11 +27,6 @@ use Rattle.events.specs.declared.form.LossForm.{LossForm}
 use Rattle.events.specs.declared.form.LossForm.the-variants as form
 use Rattle.events.specs.Event.{eventText, lossText, closes}
 use Rattle.events.specs.Form.{headOf, lossAt, lossFormFrom, amountsAt}
-
-pub zero-at : (k i : ℕ) → getD {A = ℕ} (replicate k 0) i 0 ≡ 0
-zero-at zero i = refl
-zero-at (suc k) zero = refl
-zero-at (suc k) (suc i) = zero-at k i
 
 -- what is left after a place begins there
 place-of : (s : List ℕ) (next : ℕ) → next ≤ length s → length s - length (drop next s) ≡ next

@@ -59,8 +59,8 @@ pub record Corners : Type 0 where
   -- 12 / 13 of it 101.54, 578.77 and 864.
   pub charged-in-turn : chargesOf (layerOf (termsOf 800 1300 250 1 8000 1500 7201) 0) (404 ∷ 718 ∷ 956 ∷ [])
       ≡ 101 ∷ 477 ∷ 286 ∷ []
-  -- Premiums of amounts in turn through a tier. After the first the layers have charged 71, 198 and 0; after the second
-  -- 171, 576 and 480; after the third 199, 576 and 727.
+  -- Premiums of amounts in turn through a tier. After the first the layers have charged 71, 198 and 0; after the
+  -- second 171, 576 and 480; after the third 199, 576 and 727.
   pub charged-by-tier : map (λ (xs : List ℕ). chargesThrough xs three)
       ((1660 ∷ []) ∷ (1660 ∷ 2650 ∷ []) ∷ (1660 ∷ 2650 ∷ 2382 ∷ []) ∷ [])
       ≡ 269 ∷ 1227 ∷ 1502 ∷ []

@@ -7,10 +7,10 @@ use Prim.Native.Nat.{ℕ, _≤_}
 use native.Mathlib.Omega.{arith}
 use lib.ListN.{length}
 use Rattle.lists.specs.Each.{Each}
-use Rattle.lists.proofs.Cases.{by-test, by-lt}
+use Rattle.lists.proofs.Cases.{by-test}
 use Rattle.text.proofs.Ascii.{Byte}
-use Rattle.answer.specs.Outcome.{written, nothing}
-use Rattle.answer.proofs.Outcomes.{fits, too-long}
+use Rattle.answer.specs.Outcome.{Outcome, Nothing, written, nothing}
+use Rattle.answer.proofs.Outcomes.{fits, either-way}
 use Rattle.programme.specs.declared.contract.Programme.{Programme}
 use Rattle.programme.specs.Valid.{valid}
 use Rattle.table_text.specs.declared.Reading.{Reading}
@@ -46,11 +46,9 @@ pub write-then-read : (p : Programme) (room : ℕ) (s : List ℕ) → writeOf p 
 unfolding writeOf
 write-then-read p room s e =
     by-test (valid p)
-    (λ v. by-lt room (length (textOf p))
-    (λ h. let n : _≡_ {A = ℕ} 0 1 = cc (simp (writeOf, ← v, too-long room (textOf p) nothing h) at e) in absurd (omega arith))
-    (λ h. let same : written (textOf p) nothing ≡ written s nothing = simp (writeOf, ← v, fits room (textOf p) nothing h) at e in
-    let text : textOf p ≡ s = cc in
-    rw (← text) (written-read p (sym v))))
+    (λ v. either-way room (textOf p) nothing (λ (o : Outcome Nothing). o ≡ written s nothing → readOf s ≡ readAs p)
+    (λ h q. let text : textOf p ≡ s = cc in rw (← text) (written-read p (sym v)))
+    (λ h q. let n : _≡_ {A = ℕ} 0 1 = cc in absurd (omega arith)) (simp (writeOf, ← v) at e))
     (λ v. let n : _≡_ {A = ℕ} 0 1 = cc (simp (writeOf, ← v) at e) in absurd (omega arith))
 
 -- valid programmes with the same table text are the same

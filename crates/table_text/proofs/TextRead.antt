@@ -114,7 +114,8 @@ read-on (NoForm ∷ fs) w c p g e = absurd (no-success 1 w p e)
 read-on (Line x ∷ fs) w c p g e = by-fault (faultOf c x) refl e (read-on fs (w + 1) (withContract c x) p)
   where
     by-fault : (n : ℕ) → faultOf c x ≡ n → unlessFault n w (readFrom (w + 1) (withContract c x) fs) ≡ readAs p
-        → (Lawful (withContract c x) → readFrom (w + 1) (withContract c x) fs ≡ readAs p → ReadOn (withContract c x) fs p)
+        → (Lawful (withContract c x) → readFrom (w + 1) (withContract c x) fs ≡ readAs p
+        → ReadOn (withContract c x) fs p)
         → ReadOn c (Line x ∷ fs) p
     by-fault zero z h again =
         let m = one-more c x g z in

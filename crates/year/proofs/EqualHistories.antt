@@ -33,9 +33,9 @@ use Rattle.year.specs.Standing.{spentOf}
 use Rattle.year.specs.Run.{Left, accepted, runOf}
 use Rattle.year.specs.History.{Call, Reply, replyOf, repliesIn, eventsOfHistory, ledgerOfHistory, endsOn}
 use Rattle.year.specs.History.{repliesAfter, spentIn, standingOfHistory}
-use Rattle.year.proofs.Layers.{Carries, WithinCap, termsIn, carries-sound, carries-length, same-length}
+use Rattle.year.proofs.Layers.{Carries, WithinCap, termsIn, carries-sound, carries-length}
 use Rattle.year.proofs.Treaties.{passed-numbers}
-use Rattle.year.proofs.Shown.{runs-shown}
+use Rattle.year.proofs.StatementsTell.{statements-tell}
 use Rattle.year.proofs.Size.{no-events-short}
 use Rattle.year.proofs.Cutting.{cut}
 use Rattle.year.proofs.Books.{books}
@@ -138,10 +138,7 @@ module _ (p : Programme) where
         c = contractsIn p
 
         same : shown es ≡ shown fs
-        same =
-            runs-shown (c .treaties) (yearBy p es) (yearBy p fs) [] []
-            (same-length (c .risk) _ _ (year-under p es .risk) (year-under p fs .risk))
-            (same-length (c .cat) _ _ (year-under p es .cat) (year-under p fs .cat)) refl e
+        same = statements-tell (shown es) (shown fs) e
 
         tells : (ts : List Terms) (ls ms : List Layer) → Carries ts ls → Carries ts ms
             → map layerLineOf ls ≡ map layerLineOf ms → spentOf ls ≡ spentOf ms

@@ -76,10 +76,6 @@ under-events c y (e ∷ es) u = under-events c (eventAfter (c .treaties) y e) es
 pub carries-length : (ts : List Terms) (ls : List Layer) → Carries ts ls → length ls ≡ length ts
 carries-length ts ls c = rw (← c .terms, length-map)
 
--- and so the same in two years of them
-pub same-length : (ts : List Terms) (ls ms : List Layer) → Carries ts ls → Carries ts ms → length ls ≡ length ms
-same-length ts ls ms a b = carries-length ts ls a ∙ sym (carries-length ts ms b)
-
 -- layers whose terms pass after the end of band n
 sound-from : (n : ℕ) (ls : List Layer) → chained layerPasses bandEnd n (termsIn ls) ≡ true → Each WithinCap ls
     → Each Sound ls

@@ -11,8 +11,7 @@ use Rattle.layer.specs.Layer.{afterSubject}
 use Rattle.layer.specs.Tier.{layersAfter, layersThrough}
 use Rattle.events.specs.Event.{Event}
 use Rattle.year.specs.Event.{Year, leftByTreaties, subjectOf, eventAfter, yearAfter}
-use Rattle.year.specs.Statement.{eventLines, statementOf, statementText}
-use Rattle.year.proofs.StatementsTell.{statements-tell}
+use Rattle.year.specs.Statement.{eventLines}
 
 -- amounts in turn leave as many layers as there are
 through-length : (xs : List ℕ) (ls : List Layer) → length (layersThrough xs ls) ≡ length ls
@@ -35,10 +34,3 @@ module _ (ts : List Treaty) where
   cat-length y [] = refl
   cat-length y (e ∷ es) =
       cat-length (eventAfter ts y e) es ∙ length-map (y .cat) (afterSubject (subjectOf ts y e))
-
-  -- the statements of two runs under one programme with as many events
-  pub runs-shown : (y z : Year) (es fs : List Event) → length (y .risk) ≡ length (z .risk)
-      → length (y .cat) ≡ length (z .cat) → length es ≡ length fs
-      → statementText (statementOf ts y es) ≡ statementText (statementOf ts z fs)
-      → statementOf ts y es ≡ statementOf ts z fs
-  runs-shown y z es fs r c n = statements-tell (statementOf ts y es) (statementOf ts z fs)

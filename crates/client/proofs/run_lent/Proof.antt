@@ -146,7 +146,8 @@ module _ {M : Type 1} (𝓤 : URA M) (H : Heap 𝓤) (A : Atoms 𝓤) (W : Given
       $ owned ! P.the-row (Is P.the-row) (LL.makes P.the-type P′.the-plain 𝓤 H A) p _ gp $ fjoin !
       $ move ! (1 ∷ 0 ∷ []) $ join ! $ frame ! $ done !
 
-  exits : (r : After) (ys : List ℕ) → (r ≡ afterOf outcome h) × (ys ≡ bufferAfter outcome (z .now)) → length ys ≡ length (z .now)
+  exits : (r : After) (ys : List ℕ) → (r ≡ afterOf outcome h) × (ys ≡ bufferAfter outcome (z .now))
+      → length ys ≡ length (z .now)
       → Is R.the-row r (after-vals r)
       → ent 𝓤 (⋆ 𝓤 H A (tokens ∷ ‵ (finally u8 (z .name) ys) ∷ [])) (Post (LL.val R.the-type R′.the-laws r))
   exits r ys said l gr =
