@@ -10,6 +10,9 @@ pub mod words;
 
 use long_division::Division;
 
+// The whole of a share or a rate, in basis points.
+pub const WHOLE: u64 = 10000;
+
 // A quotient with its rest, in whole cents: the one place that rounds.
 pub fn settle(n: Division, d: u64) -> u64
     requires { ⌜ Rest d n ⌝ }

@@ -30,6 +30,9 @@ const SHORT: usize = 1024;
 
 const MEDIUM: usize = 8192;
 
+// An event's line has at least so many bytes, its line feed included.
+const SHORTEST_LINE: usize = 10;
+
 // What a run gives back: its answer, and the standing after it, which is the one lent where it is refused.
 pub struct Ran {
     pub answer: Answer,
@@ -150,7 +153,7 @@ fn short(programme: Programme, standing: Standing, events: &[u8], buffer: &mut [
     ensures { λ r. ⌜ RanAs (runLines programme standing (now (events .entry)) (length (now (buffer .entry))))
         standing (now (buffer .entry)) (now (buffer .exit)) r ⌝ }
 {
-    let mut kept = [0u64; row::EVENT * SHORT / 10 + row::REST + 1];
+    let mut kept = [0u64; row::EVENT * SHORT / SHORTEST_LINE + row::REST + 1];
     through(programme, standing, events, buffer, &mut kept)
 }
 
@@ -160,7 +163,7 @@ fn medium(programme: Programme, standing: Standing, events: &[u8], buffer: &mut 
     ensures { λ r. ⌜ RanAs (runLines programme standing (now (events .entry)) (length (now (buffer .entry))))
         standing (now (buffer .entry)) (now (buffer .exit)) r ⌝ }
 {
-    let mut kept = [0u64; row::EVENT * MEDIUM / 10 + row::REST + 1];
+    let mut kept = [0u64; row::EVENT * MEDIUM / SHORTEST_LINE + row::REST + 1];
     through(programme, standing, events, buffer, &mut kept)
 }
 
@@ -170,7 +173,7 @@ fn long(programme: Programme, standing: Standing, events: &[u8], buffer: &mut [u
     ensures { λ r. ⌜ RanAs (runLines programme standing (now (events .entry)) (length (now (buffer .entry))))
         standing (now (buffer .entry)) (now (buffer .exit)) r ⌝ }
 {
-    let mut kept = [0u64; row::EVENT * rule::EVENTS_BYTES / 10 + row::REST + 1];
+    let mut kept = [0u64; row::EVENT * rule::EVENTS_BYTES / SHORTEST_LINE + row::REST + 1];
     through(programme, standing, events, buffer, &mut kept)
 }
 

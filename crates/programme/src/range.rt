@@ -6,11 +6,9 @@ ghost use Rattle.programme.specs.Ranges.{termsOutside, treatyNotZero, te
 use layer::terms::Terms;
 use treaty::Treaty;
 
-// The largest numbers of a table: treaties, shares of the whole and rates in basis points, amounts, lines, yearly
-// deductibles, reinstatements and reinstatement premiums.
+// The largest numbers of a table but for shares: treaties, rates in basis points, amounts, lines, yearly deductibles,
+// reinstatements and reinstatement premiums.
 pub const TREATIES: u64 = 8;
-
-const WHOLE: u64 = 10000;
 
 const RATE: u64 = 20000;
 
@@ -42,7 +40,7 @@ fn quota_outside(t: Treaty) -> u64
     ensures { λ r. ⌜ r ≡ quotaOutside t ⌝ }
 {
     outside(1, TREATIES, t.number)
-        + outside(0, WHOLE, t.cede)
+        + outside(0, arith::WHOLE, t.cede)
         + outside(0, AMOUNT, t.capacity)
         + outside(0, AMOUNT, t.limit)
         + outside(0, 0, t.retention)
@@ -83,7 +81,7 @@ pub fn terms_outside(l: Terms) -> u64
         + outside(0, REINSTATEMENTS, l.reinstatements)
         + outside(0, RATE, l.rate)
         + outside(0, PREMIUM, l.premium)
-        + outside(0, WHOLE, l.placed)
+        + outside(0, arith::WHOLE, l.placed)
 }
 
 // How many numbers of a treaty's place are not 0.

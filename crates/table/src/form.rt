@@ -8,6 +8,11 @@ use text::template;
 use text::template::Numbers;
 use treaty::Treaty;
 
+// The kinds of a line are those of a treaty and these two.
+const RISK: u64 = 3;
+
+const CAT: u64 = 4;
+
 // The kind of a line: the letter after the bracket tells the four words apart.
 fn kind(line: &[u8]) -> u64
     ensures { λ r. ⌜ r ≡ kindOf (now (line .entry)) ⌝ }
@@ -19,10 +24,10 @@ fn kind(line: &[u8]) -> u64
     let letter = line[1];
     match bracket {
         b'(' => match letter {
-            b'q' => 1,
-            b's' => 2,
-            b'r' => 3,
-            b'c' => 4,
+            b'q' => treaty::QUOTA_SHARE,
+            b's' => treaty::SURPLUS,
+            b'r' => RISK,
+            b'c' => CAT,
             _ => 0,
         },
         _ => 0,
@@ -112,13 +117,22 @@ pub fn read(line: &[u8]) -> Form
 {
     let k = kind(line);
     match k {
-        1 => quota(template::read_line(b"(quota T (cede C) (capacity A) (event L))", line)),
-        2 => surplus(template::read_line(b"(surplus T (retain R) (lines N) (event L))", line)),
-        3 => risk(template::read_line(
+        treaty::QUOTA_SHARE => quota(template::read_line(
+            b"(quota T (cede C) (capacity A) (event L))",
+            line,
+        )),
+        treaty::SURPLUS => surplus(template::read_line(
+            b"(surplus T (retain R) (lines N) (event L))",
+            line,
+        )),
+        RISK => risk(template::read_line(
             b"(risk (band A L) (deduct D) (back K Q P) (placed S))",
             line,
         )),
-        4 => cat(template::read_line(b"(cat (band A L) (deduct D) (back K Q P) (placed S))", line)),
+        CAT => cat(template::read_line(
+            b"(cat (band A L) (deduct D) (back K Q P) (placed S))",
+            line,
+        )),
         _ => Form::NoForm,
     }
 }

@@ -55,9 +55,9 @@ impl Treaty {
         ensures { λ r. ⌜ r ≡ cededByQuota (self .cede) (self .capacity) maximum covered ⌝ }
     {
         if self.capacity == 0 || maximum <= self.capacity {
-            return arith::mul_div_word(covered, self.cede, 10000);
+            return arith::mul_div_word(covered, self.cede, arith::WHOLE);
         }
-        arith::mul_div(covered, self.cede * self.capacity, 10000 * maximum)
+        arith::mul_div(covered, self.cede * self.capacity, arith::WHOLE * maximum)
     }
 
     fn by_surplus(self, maximum: u64, covered: u64) -> u64
