@@ -1,18 +1,34 @@
 -- Figures at the corners of the treaties' definitions.
 -- Assumes nothing.
 use mathlib.Core.Path.{_≡_, refl}
-use mathlib.Core.List.{[], _∷_}
+use mathlib.Core.List.{List, [], _∷_}
 use Prim.Native.Nat.{ℕ}
 use Rattle.arith.specs.Round.{rounded}
+use Rattle.treaty.specs.declared.Treaty.{Treaty}
+use Rattle.treaty.specs.declared.Loss.{Loss}
 use Rattle.treaty.specs.Treaty.{quotaOf, surplusOf, lossOf, cessions}
 use Rattle.treaty.specs.Treaty.{coveredPart, cededByQuota, cededBySurplus, cededOf, cededOfLoss}
 use Rattle.treaty.specs.Losses.{cededIn, cededOfEach}
+
+-- two treaties with event limits, and the losses of one event, in which the losses of each stand between the other's
+abbrev quotaShare : Treaty
+quotaShare = quotaOf 1 5000 0 9000
+
+abbrev surplus : Treaty
+surplus = surplusOf 3 1000 4 5000
+
+abbrev mixed : List Loss
+mixed =
+    lossOf 3 4000 3000 ∷ lossOf 1 600 8000 ∷ lossOf 0 700 7000 ∷ lossOf 3 4000 1500 ∷ lossOf 1 600 2000
+    ∷ lossOf 3 5000 1000 ∷ []
 
 pub record Corners : Type 0 where
   -- capacity 0 is none: 7,200 bp of 9,999 at any E
   pub capacity-none : (e : ℕ) → cessions (quotaOf 1 7200 0 0) (lossOf 1 e 9999 ∷ []) ≡ 7199 ∷ []
   -- E just above the capacity: 10,000 × 4,000 × 20,000 / 200,010,000
   pub capacity-passed : cessions (quotaOf 1 4000 20000 0) (lossOf 1 20001 10000 ∷ []) ≡ 3999 ∷ []
+  -- rounded once, after the whole product: 101 × 3,333 × 7 / 90,000
+  pub capacity-rounded : cessions (quotaOf 1 3333 7 0) (lossOf 1 9 101 ∷ []) ≡ 26 ∷ []
   -- all and nothing ceded
   pub cede-all : cessions (quotaOf 1 10000 0 0) (lossOf 1 1 777 ∷ []) ≡ 777 ∷ []
   pub cede-none : cessions (quotaOf 1 0 0 0) (lossOf 1 1 777 ∷ []) ≡ 0 ∷ []
@@ -28,6 +44,10 @@ pub record Corners : Type 0 where
   pub retained : cessions (surplusOf 1 10000 3 0) (lossOf 1 10000 8000 ∷ lossOf 1 10001 8000 ∷ []) ≡ 0 ∷ 0 ∷ []
   -- E equal to r × (1 + n), and one above it: 8,000 × 30,000 / 40,001
   pub upper-end : cessions (surplusOf 1 10000 3 0) (lossOf 1 40000 8000 ∷ lossOf 1 40001 8000 ∷ []) ≡ 6000 ∷ 5999 ∷ []
+  -- E between r × n and r × (1 + n): 7,000 × 25,000 / 35,000
+  pub between : cessions (surplusOf 1 10000 3 0) (lossOf 1 35000 7000 ∷ []) ≡ 5000 ∷ []
+  -- rounded down, once, after the whole product: 102 × 5 / 7, and 102 × 3 × 2 / 11
+  pub surplus-rounded : cessions (surplusOf 1 2 3 0) (lossOf 1 7 102 ∷ lossOf 1 11 102 ∷ []) ≡ 72 ∷ 55 ∷ []
   -- retention 0 and lines 0 mean their 0
   pub retention-zero : cessions (surplusOf 1 0 3 0) (lossOf 1 50000 8000 ∷ []) ≡ 0 ∷ []
   pub lines-zero : cessions (surplusOf 1 10000 0 0) (lossOf 1 50000 8000 ∷ []) ≡ 0 ∷ []
@@ -45,12 +65,18 @@ pub record Corners : Type 0 where
   pub in-turn : cededOfEach (quotaOf 1 4000 0 15000 ∷ surplusOf 3 1000 3 0 ∷ []) []
       (lossOf 1 9000 11000 ∷ lossOf 3 2500 1700 ∷ lossOf 1 9000 6000 ∷ lossOf 0 700 700 ∷ [])
       ≡ 4400 ∷ 1020 ∷ 1600 ∷ 0 ∷ []
+  -- U of each treaty is the sum of its own earlier g: 3,000 and 4,500 before the second and third loss of the surplus,
+  -- 8,000 before the second of the quota share
+  pub own-totals : cededOfEach (quotaShare ∷ surplus ∷ []) [] mixed ≡ 2250 ∷ 4000 ∷ 0 ∷ 1125 ∷ 500 ∷ 400 ∷ []
+  pub own-quota : cessions quotaShare mixed ≡ 4000 ∷ 500 ∷ []
+  pub own-surplus : cessions surplus mixed ≡ 2250 ∷ 1125 ∷ 400 ∷ []
 
 pub corners : Corners
 unfolding coveredPart cededByQuota cededBySurplus cededOf cededOfLoss cededIn rounded
 corners = record {
   capacity-none = λ e. refl;
   capacity-passed = refl;
+  capacity-rounded = refl;
   cede-all = refl;
   cede-none = refl;
   limit-none = refl;
@@ -59,10 +85,15 @@ corners = record {
   surplus-limited = refl;
   retained = refl;
   upper-end = refl;
+  between = refl;
+  surplus-rounded = refl;
   retention-zero = refl;
   lines-zero = refl;
   others = refl;
   above-maximum = refl;
   largest = refl;
   in-turn = refl;
+  own-totals = refl;
+  own-quota = refl;
+  own-surplus = refl;
 }
