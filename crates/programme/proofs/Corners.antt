@@ -1,14 +1,17 @@
--- The ends of validity, by the definitions: eight layers of a tier, and a count of nine.
+-- The ends of validity, by the definitions: of each number's range, eight layers of a tier, and a count of nine.
 -- Assumes nothing.
 use mathlib.Core.Path.{_≡_, refl}
 use mathlib.Core.Bool.{true, false}
-use mathlib.Core.List.{List, [], _∷_}
+use mathlib.Core.List.{List, [], _∷_, map}
 use Prim.Native.Nat.{ℕ}
+use lib.ListN.{replicate}
+use Rattle.treaty.specs.declared.Treaty.{Treaty}
+use Rattle.treaty.specs.Treaty.{quotaOf, surplusOf}
 use Rattle.layer.specs.declared.terms.Terms.{Terms}
 use Rattle.layer.specs.Layer.{termsOf}
 use Rattle.programme.specs.declared.contract.Programme.{Programme}
 use Rattle.programme.specs.Contracts.{noContracts, programmeOf}
-use Rattle.programme.specs.Ranges.{outside, termsOutside, treatyNotZero, termsNotZero}
+use Rattle.programme.specs.Ranges.{outside, treatyOutside, termsOutside, treatyNotZero, termsNotZero}
 use Rattle.programme.specs.Valid.{validTreaties, validLayers, valid}
 
 -- eight layers, each at the end of the band before
@@ -26,10 +29,78 @@ withRisk n ls = record {
   cat = programmeOf noContracts .cat;
 }
 
+-- a treaty's place with any numbers in it
+abbrev treaty : (k t c a r n l : ℕ) → Treaty
+treaty k t c a r n l =
+    record { kind = k; number = t; cede = c; capacity = a; retention = r; lines = n; limit = l }
+
+-- 0 and 1, 10^13 and one past it: of these an amount from 0 on lacks the last, one from 1 on the first too
+abbrev amounts : List ℕ
+amounts = 0 ∷ 1 ∷ 10000000000000 ∷ 10000000000001 ∷ []
+
 pub record Corners : Type 0 where
+  -- of each number in turn, among others in range: 0 at an end, 1 one past it
+  pub quota-number : map (λ (n : ℕ). treatyOutside (quotaOf n 4000 7 9)) (0 ∷ 1 ∷ 8 ∷ 9 ∷ []) ≡ 1 ∷ 0 ∷ 0 ∷ 1 ∷ []
+  pub quota-cede : map (λ (n : ℕ). treatyOutside (quotaOf 3 n 7 9)) (0 ∷ 10000 ∷ 10001 ∷ []) ≡ 0 ∷ 0 ∷ 1 ∷ []
+  pub quota-capacity : map (λ (n : ℕ). treatyOutside (quotaOf 3 4000 n 9)) amounts ≡ 0 ∷ 0 ∷ 0 ∷ 1 ∷ []
+  pub quota-limit : map (λ (n : ℕ). treatyOutside (quotaOf 3 4000 7 n)) amounts ≡ 0 ∷ 0 ∷ 0 ∷ 1 ∷ []
+  pub surplus-number : map (λ (n : ℕ). treatyOutside (surplusOf n 7 3 9)) (0 ∷ 1 ∷ 8 ∷ 9 ∷ []) ≡ 1 ∷ 0 ∷ 0 ∷ 1 ∷ []
+  pub surplus-retention : map (λ (n : ℕ). treatyOutside (surplusOf 3 n 3 9)) amounts ≡ 0 ∷ 0 ∷ 0 ∷ 1 ∷ []
+  pub surplus-lines : map (λ (n : ℕ). treatyOutside (surplusOf 3 7 n 9)) (0 ∷ 100 ∷ 101 ∷ []) ≡ 0 ∷ 0 ∷ 1 ∷ []
+  pub surplus-limit : map (λ (n : ℕ). treatyOutside (surplusOf 3 7 3 n)) amounts ≡ 0 ∷ 0 ∷ 0 ∷ 1 ∷ []
+  pub layer-attachment : map (λ (n : ℕ). termsOutside (termsOf n 7 9 2 5000 11 7200)) amounts ≡ 0 ∷ 0 ∷ 0 ∷ 1 ∷ []
+  pub layer-limit : map (λ (n : ℕ). termsOutside (termsOf 5 n 9 2 5000 11 7200)) amounts ≡ 1 ∷ 0 ∷ 0 ∷ 1 ∷ []
+  pub layer-deductible : map (λ (n : ℕ). termsOutside (termsOf 5 7 n 2 5000 11 7200))
+      (0 ∷ 1000000000000000 ∷ 1000000000000001 ∷ []) ≡ 0 ∷ 0 ∷ 1 ∷ []
+  pub layer-reinstatements : map (λ (n : ℕ). termsOutside (termsOf 5 7 9 n 5000 11 7200)) (0 ∷ 20 ∷ 21 ∷ [])
+      ≡ 0 ∷ 0 ∷ 1 ∷ []
+  pub layer-rate : map (λ (n : ℕ). termsOutside (termsOf 5 7 9 2 n 11 7200)) (0 ∷ 20000 ∷ 20001 ∷ [])
+      ≡ 0 ∷ 0 ∷ 1 ∷ []
+  pub layer-premium : map (λ (n : ℕ). termsOutside (termsOf 5 7 9 2 5000 n 7200))
+      (0 ∷ 1000000000000 ∷ 1000000000001 ∷ []) ≡ 0 ∷ 0 ∷ 1 ∷ []
+  pub layer-placed : map (λ (n : ℕ). termsOutside (termsOf 5 7 9 2 5000 11 n)) (0 ∷ 10000 ∷ 10001 ∷ [])
+      ≡ 0 ∷ 0 ∷ 1 ∷ []
+  -- the kinds 1 and 2 alone are treaties; each holds 0 in the terms of the other
+  pub kinds : map (λ (k : ℕ). treatyOutside (treaty k 3 0 0 0 0 9)) (0 ∷ 1 ∷ 2 ∷ 3 ∷ []) ≡ 1 ∷ 0 ∷ 0 ∷ 1 ∷ []
+  pub not-of-a-quota : map treatyOutside (treaty 1 3 4000 7 1 0 9 ∷ treaty 1 3 4000 7 0 1 9 ∷ []) ≡ 1 ∷ 1 ∷ []
+  pub not-of-a-surplus : map treatyOutside (treaty 2 3 1 0 7 3 9 ∷ treaty 2 3 0 1 7 3 9 ∷ []) ≡ 1 ∷ 1 ∷ []
+  -- an unused place holds nothing but 0, in each of its numbers
+  pub treaty-unused : treatyNotZero (treaty 0 0 0 0 0 0 0) ≡ 0
+  pub treaty-not-unused : map treatyNotZero
+      (treaty 1 0 0 0 0 0 0 ∷ treaty 0 1 0 0 0 0 0 ∷ treaty 0 0 1 0 0 0 0 ∷ treaty 0 0 0 1 0 0 0
+      ∷ treaty 0 0 0 0 1 0 0 ∷ treaty 0 0 0 0 0 1 0 ∷ treaty 0 0 0 0 0 0 1 ∷ []) ≡ replicate 7 1
+  pub terms-unused : termsNotZero (termsOf 0 0 0 0 0 0 0) ≡ 0
+  pub terms-not-unused : map termsNotZero
+      (termsOf 1 0 0 0 0 0 0 ∷ termsOf 0 1 0 0 0 0 0 ∷ termsOf 0 0 1 0 0 0 0 ∷ termsOf 0 0 0 1 0 0 0
+      ∷ termsOf 0 0 0 0 1 0 0 ∷ termsOf 0 0 0 0 0 1 0 ∷ termsOf 0 0 0 0 0 0 1 ∷ []) ≡ replicate 7 1
   pub eight-used : valid (withRisk 8 eightTerms) ≡ true
   pub nine-used : valid (withRisk 9 eightTerms) ≡ false
 
 pub corners : Corners
-unfolding outside termsOutside treatyNotZero termsNotZero validTreaties validLayers valid
-corners = record { eight-used = refl; nine-used = refl }
+unfolding outside treatyOutside termsOutside treatyNotZero termsNotZero validTreaties validLayers valid
+corners = record {
+  quota-number = refl;
+  quota-cede = refl;
+  quota-capacity = refl;
+  quota-limit = refl;
+  surplus-number = refl;
+  surplus-retention = refl;
+  surplus-lines = refl;
+  surplus-limit = refl;
+  layer-attachment = refl;
+  layer-limit = refl;
+  layer-deductible = refl;
+  layer-reinstatements = refl;
+  layer-rate = refl;
+  layer-premium = refl;
+  layer-placed = refl;
+  kinds = refl;
+  not-of-a-quota = refl;
+  not-of-a-surplus = refl;
+  treaty-unused = refl;
+  treaty-not-unused = refl;
+  terms-unused = refl;
+  terms-not-unused = refl;
+  eight-used = refl;
+  nine-used = refl;
+}
