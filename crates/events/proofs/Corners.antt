@@ -54,6 +54,9 @@ pub record Corners : Type 0 where
   -- 9 and its 0; a text of 65,536 bytes is read
   pub long : eventsOf table 0 (replicate 65537 10) ≡ turnedDown 9 0
   pub not-long : eventsOf table 0 (replicate 65536 10) ≡ turnedDown 10 1
+  -- twenty bytes of two lines, and others after them up to 65,536: judged by its lines, and by 9 with one byte more
+  pub long-of-lines : eventsOf table 0 (bytes "(event 5)\n(event 4)\n" ++ replicate 65517 120) ≡ turnedDown 9 0
+  pub not-long-of-lines : eventsOf table 0 (bytes "(event 5)\n(event 4)\n" ++ replicate 65516 120) ≡ turnedDown 13 2
   -- 10: no line feed, a leading zero, seventeen digits, spaces, brackets, bytes after the form, upper case
   pub no-feed : eventsOf table 0 (bytes "(event 1)") ≡ turnedDown 10 1
   pub no-last-feed : eventsOf table 0 (bytes "(event 1)\n(event 2)") ≡ turnedDown 10 2
@@ -74,7 +77,15 @@ pub record Corners : Type 0 where
   pub four-numbers : line "(event 1 (loss 0 1 0 0))" ≡ turnedDown 10 1
   pub upper-case : line "(EVENT 1)" ≡ turnedDown 10 1
   pub upper-case-loss : line "(event 1 (Loss 0 1 0))" ≡ turnedDown 10 1
-  -- 11: the ends of D, T, E and G
+  -- 11: the ends of D, T, E and G, by the tests of the ranges: 0 at an end, 1 one past it
+  pub day-ends : map (λ (n : ℕ). eventOutside (on n (lossOf 3 7 9 ∷ []))) (0 ∷ 1 ∷ 366 ∷ 367 ∷ [])
+      ≡ 1 ∷ 0 ∷ 0 ∷ 1 ∷ []
+  pub treaty-ends : map (λ (n : ℕ). lossOutside (lossOf n 7 9)) (0 ∷ 8 ∷ 9 ∷ []) ≡ 0 ∷ 0 ∷ 1 ∷ []
+  pub maximum-ends : map (λ (n : ℕ). lossOutside (lossOf 3 n 9)) (0 ∷ 1 ∷ 10000000000000 ∷ 10000000000001 ∷ [])
+      ≡ 1 ∷ 0 ∷ 0 ∷ 1 ∷ []
+  pub amount-ends : map (λ (n : ℕ). lossOutside (lossOf 3 7 n)) (0 ∷ 1 ∷ 10000000000000 ∷ 10000000000001 ∷ [])
+      ≡ 0 ∷ 0 ∷ 0 ∷ 1 ∷ []
+  -- the same ends in a text
   pub sixteen-digits : line "(event 9999999999999999)" ≡ turnedDown 11 1
   pub day-0 : line "(event 0)" ≡ turnedDown 11 1
   pub day-366 : line "(event 366)" ≡ events (on 366 [] ∷ [])
@@ -104,6 +115,10 @@ pub record Corners : Type 0 where
   pub count-before-treaty : many 0 64 " (loss 3 1 0))\n" ≡ turnedDown 12 1
   pub count-before-day : many 2 65 ")\n" ≡ turnedDown 12 1
   pub day-before-treaty : after 2 ("(event 1 (loss 3 1 0))" ∷ []) ≡ turnedDown 13 1
+  pub day-before-later-treaty : reading ("(event 9)" ∷ "(event 8 (loss 1 1 0) (loss 5 1 0))" ∷ []) ≡ turnedDown 13 2
+  -- a day back, 65 losses, a treaty that the table lacks, and with these a number outside its range
+  pub faults-12-to-14 : many 2 64 " (loss 3 1 0))\n" ≡ turnedDown 12 1
+  pub faults-11-to-14 : many 2 64 " (loss 3 0 0))\n" ≡ turnedDown 11 1
   -- the first line from the top
   pub first-line : reading ("(event 1 (loss 3 1 0))" ∷ "none" ∷ []) ≡ turnedDown 14 1
   pub day-before-form : reading ("(event 2)" ∷ "(event 1)" ∷ "none" ∷ []) ≡ turnedDown 13 2
@@ -118,6 +133,8 @@ corners = record {
   two-events = refl;
   long = refl;
   not-long = refl;
+  long-of-lines = refl;
+  not-long-of-lines = refl;
   no-feed = refl;
   no-last-feed = refl;
   leading-zero = refl;
@@ -137,6 +154,10 @@ corners = record {
   four-numbers = refl;
   upper-case = refl;
   upper-case-loss = refl;
+  day-ends = refl;
+  treaty-ends = refl;
+  maximum-ends = refl;
+  amount-ends = refl;
   sixteen-digits = refl;
   day-0 = refl;
   day-366 = refl;
@@ -162,6 +183,9 @@ corners = record {
   count-before-treaty = refl;
   count-before-day = refl;
   day-before-treaty = refl;
+  day-before-later-treaty = refl;
+  faults-12-to-14 = refl;
+  faults-11-to-14 = refl;
   first-line = refl;
   day-before-form = refl;
 }
