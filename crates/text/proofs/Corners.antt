@@ -5,7 +5,8 @@ use mathlib.Core.List.{[], _∷_, _++_}
 use mathlib.Core.Option.{none, some}
 use Prim.Native.Nat.{_+_, _*_, _^_}
 use Rattle.text.specs.Bytes.{bytes}
-use Rattle.text.specs.Number.{printedBy, printed, digits, digitOf, readOn, number}
+use Rattle.text.specs.Number.{printedBy, printed, digits, digitOf, readOn, number, numberAt}
+use Rattle.text.specs.declared.number.Number.the-variants.{Value, Nothing}
 use Rattle.text.specs.Template.{capital, filled, matched, wholeOf, lineNumbers}
 use Rattle.text.specs.Lines.{linesOf, joined}
 
@@ -19,11 +20,20 @@ pub record Corners : Type 0 where
   pub zero-read : number (bytes "0)") ≡ some (0, bytes ")")
   pub sixteen-read : number (bytes "9999999999999999 ") ≡ some (9999999999999999, bytes " ")
   pub seventeen : number (bytes "10000000000000000 ") ≡ none
+  pub sixteen-least : number (bytes "1000000000000000)") ≡ some (1000000000000000, bytes ")")
+  pub sixteen-to-the-end : number (bytes "1234567890123456") ≡ some (1234567890123456, [])
+  pub seventeen-to-the-end : number (bytes "12345678901234567") ≡ none
+  pub seventeen-nines : number (bytes "99999999999999999)") ≡ none
   pub leading-zero : number (bytes "01 ") ≡ none
+  pub leading-zero-of-sixteen : number (bytes "0123456789012345)") ≡ none
   pub two-zeros : number (bytes "00") ≡ none
   pub no-digit : number (bytes " 1") ≡ none
   pub sign : number (bytes "-1") ≡ none
   pub nothing : number [] ≡ none
+  -- at a place of a text, with the place after it
+  pub sixteen-at : numberAt (bytes "(a 1234567890123456)") 3 ≡ Value 1234567890123456 19
+  pub seventeen-at : numberAt (bytes "(a 12345678901234567)") 3 ≡ Nothing
+  pub leading-zero-at : numberAt (bytes "(a 07)") 3 ≡ Nothing
   -- the bytes next to the digits
   pub below-digits : number (47 ∷ []) ≡ none
   pub above-digits : number (58 ∷ []) ≡ none
@@ -48,7 +58,7 @@ pub record Corners : Type 0 where
   pub put-together : joined (bytes "ab" ∷ [] ∷ []) ≡ bytes "ab\n\n"
 
 pub corners : Corners
-unfolding printedBy printed digitOf readOn number capital filled matched wholeOf lineNumbers linesOf
+unfolding printedBy printed digitOf readOn number numberAt capital filled matched wholeOf lineNumbers linesOf
 corners = record {
   zero-printed = refl;
   ten-printed = refl;
@@ -57,11 +67,19 @@ corners = record {
   zero-read = refl;
   sixteen-read = refl;
   seventeen = refl;
+  sixteen-least = refl;
+  sixteen-to-the-end = refl;
+  seventeen-to-the-end = refl;
+  seventeen-nines = refl;
   leading-zero = refl;
+  leading-zero-of-sixteen = refl;
   two-zeros = refl;
   no-digit = refl;
   sign = refl;
   nothing = refl;
+  sixteen-at = refl;
+  seventeen-at = refl;
+  leading-zero-at = refl;
   below-digits = refl;
   above-digits = refl;
   ended-above = refl;
