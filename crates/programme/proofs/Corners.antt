@@ -1,17 +1,20 @@
--- The ends of validity, by the definitions: of each number's range, eight layers of a tier, and a count of nine.
+-- The ends of validity, by the definitions: of each number's range, the rules of a line and their order, eight layers
+-- of a tier, and a count of nine.
 -- Assumes nothing.
 use mathlib.Core.Path.{_≡_, refl}
 use mathlib.Core.Bool.{true, false}
 use mathlib.Core.List.{List, [], _∷_, map}
 use Prim.Native.Nat.{ℕ}
-use lib.ListN.{replicate}
+use lib.ListN.{replicate, take}
 use Rattle.treaty.specs.declared.Treaty.{Treaty}
 use Rattle.treaty.specs.Treaty.{quotaOf, surplusOf}
 use Rattle.layer.specs.declared.terms.Terms.{Terms}
 use Rattle.layer.specs.Layer.{termsOf}
 use Rattle.programme.specs.declared.contract.Programme.{Programme}
-use Rattle.programme.specs.Contracts.{noContracts, programmeOf}
+use Rattle.programme.specs.declared.contract.Contract.the-variants.{Proportional, Risk, Cat}
+use Rattle.programme.specs.Contracts.{Contracts, noContracts, programmeOf}
 use Rattle.programme.specs.Ranges.{outside, treatyOutside, termsOutside, treatyNotZero, termsNotZero}
+use Rattle.programme.specs.Rules.{treatyFault, layerFault, faultOf}
 use Rattle.programme.specs.Valid.{validTreaties, validLayers, valid}
 
 -- eight layers, each at the end of the band before
@@ -33,6 +36,14 @@ withRisk n ls = record {
 abbrev treaty : (k t c a r n l : ℕ) → Treaty
 treaty k t c a r n l =
     record { kind = k; number = t; cede = c; capacity = a; retention = r; lines = n; limit = l }
+
+-- the contracts before a line: treaties, risk layers and cat layers
+abbrev before : List Treaty → List Terms → List Terms → Contracts
+before ts rs cs = record { treaties = ts; risk = rs; cat = cs }
+
+-- one layer, with the band 50 50
+abbrev oneBand : List Terms
+oneBand = termsOf 50 50 0 0 0 0 3333 ∷ []
 
 -- 0 and 1, 10^13 and one past it: of these an amount from 0 on lacks the last, one from 1 on the first too
 abbrev amounts : List ℕ
@@ -73,11 +84,46 @@ pub record Corners : Type 0 where
   pub terms-not-unused : map termsNotZero
       (termsOf 1 0 0 0 0 0 0 ∷ termsOf 0 1 0 0 0 0 0 ∷ termsOf 0 0 1 0 0 0 0 ∷ termsOf 0 0 0 1 0 0 0
       ∷ termsOf 0 0 0 0 1 0 0 ∷ termsOf 0 0 0 0 0 1 0 ∷ termsOf 0 0 0 0 0 0 1 ∷ []) ≡ replicate 7 1
+  -- 4: a treaty of either kind after a risk layer, and after a cat layer
+  pub treaties-after-risk : map (faultOf (before [] oneBand []))
+      (Proportional (quotaOf 1 4000 0 0) ∷ Proportional (surplusOf 1 10000 3 0) ∷ []) ≡ 4 ∷ 4 ∷ []
+  pub treaties-after-cat : map (faultOf (before [] [] oneBand))
+      (Proportional (quotaOf 1 4000 0 0) ∷ Proportional (surplusOf 1 10000 3 0) ∷ []) ≡ 4 ∷ 4 ∷ []
+  -- a risk layer after a cat layer; a layer of either tier after a treaty and a cat layer after a risk layer are fine
+  pub risk-after-cat : faultOf (before [] [] oneBand) (Risk (termsOf 100 1 0 0 0 0 0)) ≡ 4
+  pub layers-after-treaty : map (faultOf (before (quotaOf 8 4000 0 0 ∷ []) [] []))
+      (Risk (termsOf 0 1 0 0 0 0 0) ∷ Cat (termsOf 0 1 0 0 0 0 0) ∷ []) ≡ 0 ∷ 0 ∷ []
+  pub cat-after-risk : faultOf (before [] oneBand []) (Cat (termsOf 99 1 0 0 0 0 0)) ≡ 0
+  -- T below, at and above the one before, over both kinds
+  pub rising-after-quota : map (faultOf (before (quotaOf 3 4000 0 0 ∷ []) [] []))
+      (Proportional (surplusOf 2 7 3 9) ∷ Proportional (surplusOf 3 7 3 9) ∷ Proportional (surplusOf 4 7 3 9) ∷ [])
+      ≡ 4 ∷ 4 ∷ 0 ∷ []
+  pub rising-after-surplus : map (faultOf (before (surplusOf 5 7 3 9 ∷ []) [] []))
+      (Proportional (quotaOf 4 4000 0 0) ∷ Proportional (quotaOf 5 4000 0 0) ∷ Proportional (quotaOf 6 4000 0 0) ∷ [])
+      ≡ 4 ∷ 4 ∷ 0 ∷ []
+  -- 5: an attachment at the end of the band before, and a cent below it
+  pub risk-bands : map (λ (n : ℕ). faultOf (before [] oneBand []) (Risk (termsOf n 1 0 0 0 0 0))) (100 ∷ 99 ∷ [])
+      ≡ 0 ∷ 5 ∷ []
+  pub cat-bands : map (λ (n : ℕ). faultOf (before [] [] oneBand) (Cat (termsOf n 1 0 0 0 0 0))) (100 ∷ 99 ∷ [])
+      ≡ 0 ∷ 5 ∷ []
+  -- an eighth layer is fine, a ninth is 4, also below the end of the band before, and 3 with a limit of 0
+  pub eighth-risk : faultOf (before [] (take 7 eightTerms) []) (Risk (termsOf 50 1 0 0 0 0 0)) ≡ 0
+  pub eighth-cat : faultOf (before [] [] (take 7 eightTerms)) (Cat (termsOf 50 1 0 0 0 0 0)) ≡ 0
+  pub ninth-risk : map (faultOf (before [] eightTerms []))
+      (Risk (termsOf 100 1 0 0 0 0 0) ∷ Risk (termsOf 99 1 0 0 0 0 0) ∷ Risk (termsOf 99 0 0 0 0 0 0) ∷ [])
+      ≡ 4 ∷ 4 ∷ 3 ∷ []
+  pub ninth-cat : map (faultOf (before [] [] eightTerms))
+      (Cat (termsOf 100 1 0 0 0 0 0) ∷ Cat (termsOf 99 1 0 0 0 0 0) ∷ Cat (termsOf 99 0 0 0 0 0 0) ∷ [])
+      ≡ 4 ∷ 4 ∷ 3 ∷ []
+  -- a first cat layer after eight risk layers is none of theirs
+  pub first-cat : faultOf (before [] eightTerms []) (Cat (termsOf 0 1 0 0 0 0 0)) ≡ 0
+  -- eight layers of a tier, and a count of nine
   pub eight-used : valid (withRisk 8 eightTerms) ≡ true
   pub nine-used : valid (withRisk 9 eightTerms) ≡ false
 
 pub corners : Corners
-unfolding outside treatyOutside termsOutside treatyNotZero termsNotZero validTreaties validLayers valid
+unfolding outside treatyOutside termsOutside treatyNotZero termsNotZero treatyFault layerFault validTreaties
+    validLayers valid
 corners = record {
   quota-number = refl;
   quota-cede = refl;
@@ -101,6 +147,20 @@ corners = record {
   treaty-not-unused = refl;
   terms-unused = refl;
   terms-not-unused = refl;
+  treaties-after-risk = refl;
+  treaties-after-cat = refl;
+  risk-after-cat = refl;
+  layers-after-treaty = refl;
+  cat-after-risk = refl;
+  rising-after-quota = refl;
+  rising-after-surplus = refl;
+  risk-bands = refl;
+  cat-bands = refl;
+  eighth-risk = refl;
+  eighth-cat = refl;
+  ninth-risk = refl;
+  ninth-cat = refl;
+  first-cat = refl;
   eight-used = refl;
   nine-used = refl;
 }
