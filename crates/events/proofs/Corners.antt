@@ -13,7 +13,7 @@ use Rattle.treaty.specs.declared.Treaty.{Treaty}
 use Rattle.treaty.specs.declared.Loss.{Loss}
 use Rattle.treaty.specs.Treaty.{quotaOf, surplusOf, lossOf}
 use Rattle.programme.specs.Ranges.{outside}
-use Rattle.events.specs.Event.{Event, closes, lossesUpTo, eventOf}
+use Rattle.events.specs.Event.{Event, closes, lossesUpTo, eventOf, lastDay}
 use Rattle.events.specs.Rules.{lossOutside, eventOutside, lacking, eventFault}
 use Rattle.events.specs.Read.{EventsRead, turnedDown, events, readFrom, eventsOf}
 
@@ -122,6 +122,9 @@ pub record Corners : Type 0 where
   -- the first line from the top
   pub first-line : reading ("(event 1 (loss 3 1 0))" ∷ "none" ∷ []) ≡ turnedDown 14 1
   pub day-before-form : reading ("(event 2)" ∷ "(event 1)" ∷ "none" ∷ []) ≡ turnedDown 13 2
+  -- the last day: that of the last event, or the day before without one
+  pub no-last-day : map (λ (d : ℕ). lastDay d []) (0 ∷ 230 ∷ []) ≡ 0 ∷ 230 ∷ []
+  pub last-day : lastDay 230 (on 231 [] ∷ on 240 (lossOf 0 7 9 ∷ []) ∷ []) ≡ 240
 
 pub corners : Corners
 unfolding digitOf readOn number capital matched linesOf outside closes lossesUpTo eventOf lossOutside eventOutside
@@ -188,4 +191,6 @@ corners = record {
   faults-11-to-14 = refl;
   first-line = refl;
   day-before-form = refl;
+  no-last-day = refl;
+  last-day = refl;
 }
