@@ -1,5 +1,5 @@
--- The ends of validity, by the definitions: of each number's range, the rules of a line and their order, eight layers
--- of a tier, and a count of nine.
+-- Figures of a programme and its validity, by the definitions: its places, the ends of each number's range, the rules
+-- of a line and their order, eight layers of a tier, and a count of nine.
 -- Assumes nothing.
 use mathlib.Core.Path.{_≡_, refl}
 use mathlib.Core.Bool.{true, false}
@@ -12,10 +12,78 @@ use Rattle.layer.specs.declared.terms.Terms.{Terms}
 use Rattle.layer.specs.Layer.{termsOf}
 use Rattle.programme.specs.declared.contract.Programme.{Programme}
 use Rattle.programme.specs.declared.contract.Contract.the-variants.{Proportional, Risk, Cat}
-use Rattle.programme.specs.Contracts.{Contracts, noContracts, programmeOf}
+use Rattle.programme.specs.Contracts.{Contracts, noContracts, withContract, inOrder, programmeOf, contractsIn}
 use Rattle.programme.specs.Ranges.{outside, treatyOutside, termsOutside, treatyNotZero, termsNotZero}
 use Rattle.programme.specs.Rules.{treatyFault, layerFault, faultOf}
 use Rattle.programme.specs.Valid.{validTreaties, validLayers, valid}
+
+-- a place with any numbers in it, in the programme's order, and one that holds 0
+abbrev treaty : (k t c a r n l : ℕ) → Treaty
+treaty k t c a r n l =
+    record { kind = k; number = t; cede = c; capacity = a; retention = r; lines = n; limit = l }
+
+abbrev zeroTreaty : Treaty
+zeroTreaty = treaty 0 0 0 0 0 0 0
+
+abbrev terms : (a l d k q p s : ℕ) → Terms
+terms a l d k q p s = record {
+  attachment = a;
+  limit = l;
+  deductible = d;
+  reinstatements = k;
+  rate = q;
+  premium = p;
+  placed = s;
+}
+
+abbrev pub zeroTerms : Terms
+zeroTerms = terms 0 0 0 0 0 0 0
+
+-- the programme without contracts, place by place
+abbrev pub nothingHeld : Programme
+nothingHeld = record {
+  treaties = record {
+    places = zeroTreaty ∷ zeroTreaty ∷ zeroTreaty ∷ zeroTreaty
+        ∷ zeroTreaty ∷ zeroTreaty ∷ zeroTreaty ∷ zeroTreaty ∷ [];
+    count = 0;
+  };
+  risk = record {
+    places = zeroTerms ∷ zeroTerms ∷ zeroTerms ∷ zeroTerms ∷ zeroTerms ∷ zeroTerms ∷ zeroTerms ∷ zeroTerms ∷ [];
+    count = 0;
+  };
+  cat = record {
+    places = zeroTerms ∷ zeroTerms ∷ zeroTerms ∷ zeroTerms ∷ zeroTerms ∷ zeroTerms ∷ zeroTerms ∷ zeroTerms ∷ [];
+    count = 0;
+  };
+}
+
+-- one with two treaties and a layer of each tier
+abbrev pub allHeld : Programme
+allHeld = record {
+  treaties = record {
+    places = treaty 1 2 4000 20000 0 0 15000 ∷ treaty 2 5 0 0 10000 3 0 ∷ zeroTreaty ∷ zeroTreaty
+        ∷ zeroTreaty ∷ zeroTreaty ∷ zeroTreaty ∷ zeroTreaty ∷ [];
+    count = 2;
+  };
+  risk = record {
+    places = terms 50 51 7 1 20000 9 3333 ∷ zeroTerms ∷ zeroTerms ∷ zeroTerms
+        ∷ zeroTerms ∷ zeroTerms ∷ zeroTerms ∷ zeroTerms ∷ [];
+    count = 1;
+  };
+  cat = record {
+    places = terms 40 60 0 20 5000 1000000000000 7200 ∷ zeroTerms ∷ zeroTerms ∷ zeroTerms
+        ∷ zeroTerms ∷ zeroTerms ∷ zeroTerms ∷ zeroTerms ∷ [];
+    count = 1;
+  };
+}
+
+-- its contracts
+abbrev allContracts : Contracts
+allContracts = record {
+  treaties = quotaOf 2 4000 20000 15000 ∷ surplusOf 5 10000 3 0 ∷ [];
+  risk = termsOf 50 51 7 1 20000 9 3333 ∷ [];
+  cat = termsOf 40 60 0 20 5000 1000000000000 7200 ∷ [];
+}
 
 -- eight layers, each at the end of the band before
 abbrev pub eightTerms : List Terms
@@ -32,11 +100,6 @@ withRisk n ls = record {
   cat = programmeOf noContracts .cat;
 }
 
--- a treaty's place with any numbers in it
-abbrev treaty : (k t c a r n l : ℕ) → Treaty
-treaty k t c a r n l =
-    record { kind = k; number = t; cede = c; capacity = a; retention = r; lines = n; limit = l }
-
 -- the contracts before a line: treaties, risk layers and cat layers
 abbrev before : List Treaty → List Terms → List Terms → Contracts
 before ts rs cs = record { treaties = ts; risk = rs; cat = cs }
@@ -50,6 +113,21 @@ abbrev amounts : List ℕ
 amounts = 0 ∷ 1 ∷ 10000000000000 ∷ 10000000000001 ∷ []
 
 pub record Corners : Type 0 where
+  -- contracts in their places, and back; in the table's order, and one by one
+  pub places-none : programmeOf noContracts ≡ nothingHeld
+  pub places : programmeOf allContracts ≡ allHeld
+  pub contracts-none : contractsIn nothingHeld ≡ record { treaties = []; risk = []; cat = [] }
+  pub contracts : contractsIn allHeld ≡ allContracts
+  pub in-order : inOrder allContracts
+      ≡ Proportional (quotaOf 2 4000 20000 15000) ∷ Proportional (surplusOf 5 10000 3 0)
+      ∷ Risk (termsOf 50 51 7 1 20000 9 3333) ∷ Cat (termsOf 40 60 0 20 5000 1000000000000 7200) ∷ []
+  pub one-by-one : withContract (withContract (withContract allContracts (Proportional (quotaOf 7 1 0 0)))
+      (Risk (termsOf 200 1 0 0 0 0 1))) (Cat (termsOf 300 1 0 0 0 0 2))
+      ≡ record {
+        treaties = quotaOf 2 4000 20000 15000 ∷ surplusOf 5 10000 3 0 ∷ quotaOf 7 1 0 0 ∷ [];
+        risk = termsOf 50 51 7 1 20000 9 3333 ∷ termsOf 200 1 0 0 0 0 1 ∷ [];
+        cat = termsOf 40 60 0 20 5000 1000000000000 7200 ∷ termsOf 300 1 0 0 0 0 2 ∷ [];
+      }
   -- of each number in turn, among others in range: 0 at an end, 1 one past it
   pub quota-number : map (λ (n : ℕ). treatyOutside (quotaOf n 4000 7 9)) (0 ∷ 1 ∷ 8 ∷ 9 ∷ []) ≡ 1 ∷ 0 ∷ 0 ∷ 1 ∷ []
   pub quota-cede : map (λ (n : ℕ). treatyOutside (quotaOf 3 n 7 9)) (0 ∷ 10000 ∷ 10001 ∷ []) ≡ 0 ∷ 0 ∷ 1 ∷ []
@@ -125,6 +203,12 @@ pub corners : Corners
 unfolding outside treatyOutside termsOutside treatyNotZero termsNotZero treatyFault layerFault validTreaties
     validLayers valid
 corners = record {
+  places-none = refl;
+  places = refl;
+  contracts-none = refl;
+  contracts = refl;
+  in-order = refl;
+  one-by-one = refl;
   quota-number = refl;
   quota-cede = refl;
   quota-capacity = refl;
