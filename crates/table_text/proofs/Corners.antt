@@ -13,13 +13,13 @@ use Rattle.treaty.specs.declared.Treaty.{Treaty}
 use Rattle.treaty.specs.Treaty.{quotaOf, surplusOf}
 use Rattle.layer.specs.declared.terms.Terms.{Terms}
 use Rattle.layer.specs.Layer.{termsOf}
-use Rattle.answer.specs.Outcome.{refused, written, nothing, fitted}
+use Rattle.answer.specs.Outcome.{refused, written, nothing, fitted, answerOf, bufferAfter}
 use Rattle.programme.specs.declared.contract.Programme.{Programme}
 use Rattle.programme.specs.Contracts.{Contracts, noContracts, noTreaty, noTerms, programmeOf}
 use Rattle.programme.specs.Ranges.{outside, treatyOutside, termsOutside, treatyNotZero, termsNotZero}
 use Rattle.programme.specs.Rules.{treatyFault, layerFault}
 use Rattle.programme.specs.Valid.{validTreaties, validLayers, valid}
-use Rattle.programme.proofs.Corners.{eightTerms, withRisk}
+use Rattle.programme.proofs.Corners.{zeroTerms, nothingHeld, allHeld, eightTerms, withRisk}
 use Rattle.table_text.specs.declared.Reading.{Reading}
 use Rattle.table_text.specs.Forms.{kindOf, formOfKind, formOf, treatyLine}
 use Rattle.table_text.specs.Read.{refusedAt, readAs, readFrom, readOf}
@@ -74,6 +74,18 @@ eightRisks =
     ∷ "(risk (band 42 8) (deduct 0) (back 0 0 0) (placed 3333))"
     ∷ "(risk (band 50 50) (deduct 0) (back 0 0 0) (placed 3333))" ∷ []
 
+-- eight cat layers, each at the end of the band before
+abbrev eightCats : List String
+eightCats =
+    "(cat (band 7 3) (deduct 0) (back 0 0 0) (placed 7200))"
+    ∷ "(cat (band 10 20) (deduct 0) (back 0 0 0) (placed 7200))"
+    ∷ "(cat (band 30 5) (deduct 0) (back 0 0 0) (placed 7200))"
+    ∷ "(cat (band 35 1) (deduct 0) (back 0 0 0) (placed 7200))"
+    ∷ "(cat (band 36 4) (deduct 0) (back 0 0 0) (placed 7200))"
+    ∷ "(cat (band 40 2) (deduct 0) (back 0 0 0) (placed 7200))"
+    ∷ "(cat (band 42 8) (deduct 0) (back 0 0 0) (placed 7200))"
+    ∷ "(cat (band 50 150) (deduct 0) (back 0 0 0) (placed 7200))" ∷ []
+
 -- programmes that hold nothing but these places of another kind than risk, n of them used
 abbrev withTreaties : ℕ → List Treaty → Programme
 withTreaties n ts = record {
@@ -98,7 +110,57 @@ oneTreaty k r =
     record { kind = k; number = 1; cede = 4000; capacity = 0; retention = r; lines = 0; limit = 0 }
     ∷ replicate 7 noTreaty
 
+-- the programme of every form, but for a cat limit of 0: no table text reads to it
+abbrev notLawful : Programme
+notLawful = record {
+  treaties = allHeld .treaties;
+  risk = allHeld .risk;
+  cat = record {
+    places = termsOf 40 0 0 20 5000 1000000000000 7200 ∷ replicate 7 zeroTerms;
+    count = 1;
+  };
+}
+
+-- the 235 bytes of the table of every form
+abbrev allBytes : List ℕ
+allBytes =
+    bytes "(quota 2 (cede 4000) (capacity 20000) (event 15000))\n"
+    ++ bytes "(surplus 5 (retain 10000) (lines 3) (event 0))\n"
+    ++ bytes "(risk (band 50 51) (deduct 7) (back 1 20000 9) (placed 3333))\n"
+    ++ bytes "(cat (band 40 60) (deduct 0) (back 20 5000 1000000000000) (placed 7200))\n"
+
+-- two lines of 42 bytes, the second with the T of the first
+abbrev twice : List ℕ
+twice =
+    bytes "(quota 3 (cede 0) (capacity 0) (event 0))\n" ++ bytes "(quota 3 (cede 0) (capacity 0) (event 1))\n"
+
 pub record Corners : Type 0 where
+  -- What reading answers, typed out to the places: a programme with its contracts in the first of eight ..
+  pub answer-read : readOf allBytes ≡ record { refusal = 0; line = 0; programme = allHeld }
+  pub answer-empty : readOf [] ≡ record { refusal = 0; line = 0; programme = nothingHeld }
+  -- .. or a refusal, its line and the programme without contracts, also where lines before it were read
+  pub answer-form : readOf (allBytes ++ bytes "none\n") ≡ record { refusal = 2; line = 5; programme = nothingHeld }
+  pub answer-range : readOf (bytes "(quota 9 (cede 0) (capacity 0) (event 0))\n")
+      ≡ record { refusal = 3; line = 1; programme = nothingHeld }
+  pub answer-order : readOf twice ≡ record { refusal = 4; line = 2; programme = nothingHeld }
+  pub answer-band : readOf (bytes "(risk (band 7 3) (deduct 0) (back 0 0 0) (placed 0))\n"
+      ++ bytes "(cat (band 50 50) (deduct 0) (back 0 0 0) (placed 0))\n"
+      ++ bytes "(cat (band 99 1) (deduct 0) (back 0 0 0) (placed 0))\n")
+      ≡ record { refusal = 5; line = 3; programme = nothingHeld }
+  -- 84 bytes of two lines, and others after them up to 8,192: judged by its lines, and by 1 with one byte more
+  pub answer-not-long : readOf (twice ++ replicate 8108 120)
+      ≡ record { refusal = 4; line = 2; programme = nothingHeld }
+  pub answer-long : readOf (twice ++ replicate 8109 120) ≡ record { refusal = 1; line = 0; programme = nothingHeld }
+  -- what writing answers, and the buffer after it: the text before the bytes left, or as lent
+  pub answer-written : answerOf (writeOf allHeld 240) ≡ record { refusal = 0; number = 235 }
+  pub answer-exact : answerOf (writeOf allHeld 235) ≡ record { refusal = 0; number = 235 }
+  pub answer-short : answerOf (writeOf allHeld 234) ≡ record { refusal = 7; number = 235 }
+  pub answer-not-lawful : answerOf (writeOf notLawful 240) ≡ record { refusal = 6; number = 0 }
+  pub buffer-written : bufferAfter (writeOf allHeld 240) (replicate 240 7) ≡ allBytes ++ (7 ∷ 7 ∷ 7 ∷ 7 ∷ 7 ∷ [])
+  pub buffer-exact : bufferAfter (writeOf allHeld 235) (replicate 235 7) ≡ allBytes
+  pub buffer-short : bufferAfter (writeOf allHeld 234) (replicate 234 7) ≡ replicate 234 7
+  pub buffer-not-lawful : bufferAfter (writeOf notLawful 240) (replicate 240 7) ≡ replicate 240 7
+  -- no line, every form, and the table of H1
   pub empty : reading [] ≡ readAs (programmeOf noContracts)
   pub every-form : reading allForms ≡ readAs (programmeOf allContracts)
   pub H1 : reading sidney ≡ readAs (programmeOf sidneyContracts)
@@ -131,6 +193,10 @@ pub record Corners : Type 0 where
       reading ("(risk (band 0 1) (deduct 0) (back 0 0 0) (placed 0))"
       ∷ "(quota 1 (cede 0) (capacity 0) (event 0))" ∷ [])
       ≡ refusedAt 4 2
+  pub surplus-after-risk :
+      reading ("(risk (band 0 1) (deduct 0) (back 0 0 0) (placed 0))"
+      ∷ "(surplus 1 (retain 0) (lines 0) (event 0))" ∷ [])
+      ≡ refusedAt 4 2
   pub falling-number :
       reading ("(quota 5 (cede 0) (capacity 0) (event 0))"
       ∷ "(surplus 3 (retain 0) (lines 0) (event 0))" ∷ [])
@@ -141,6 +207,12 @@ pub record Corners : Type 0 where
       reading (eightRisks ++ ("(risk (band 100 1) (deduct 0) (back 0 0 0) (placed 0))" ∷ [])) ≡ refusedAt 4 9
   pub ninth-and-overlapping :
       reading (eightRisks ++ ("(risk (band 99 1) (deduct 0) (back 0 0 0) (placed 0))" ∷ [])) ≡ refusedAt 4 9
+  pub ninth-far-below :
+      reading (eightRisks ++ ("(risk (band 0 1) (deduct 0) (back 0 0 0) (placed 0))" ∷ [])) ≡ refusedAt 4 9
+  pub ninth-cat :
+      reading (eightCats ++ ("(cat (band 200 1) (deduct 0) (back 0 0 0) (placed 0))" ∷ [])) ≡ refusedAt 4 9
+  pub ninth-cat-and-overlapping :
+      reading (eightCats ++ ("(cat (band 199 1) (deduct 0) (back 0 0 0) (placed 0))" ∷ [])) ≡ refusedAt 4 9
   pub late-and-overlapping :
       reading ("(risk (band 50 50) (deduct 0) (back 0 0 0) (placed 0))"
       ∷ "(cat (band 0 1) (deduct 0) (back 0 0 0) (placed 0))"
@@ -200,6 +272,22 @@ unfolding printedBy printed digitOf readOn number capital filled matched wholeOf
     treatyOutside termsOutside treatyNotZero termsNotZero kindOf formOfKind formOf treatyLine treatyFault layerFault
     readFrom readOf validTreaties validLayers valid fitted writeOf
 corners = record {
+  answer-read = refl;
+  answer-empty = refl;
+  answer-form = refl;
+  answer-range = refl;
+  answer-order = refl;
+  answer-band = refl;
+  answer-not-long = refl;
+  answer-long = refl;
+  answer-written = refl;
+  answer-exact = refl;
+  answer-short = refl;
+  answer-not-lawful = refl;
+  buffer-written = refl;
+  buffer-exact = refl;
+  buffer-short = refl;
+  buffer-not-lawful = refl;
   empty = refl;
   every-form = refl;
   H1 = refl;
@@ -216,10 +304,14 @@ corners = record {
   risk-late = refl;
   same-number = refl;
   treaty-after-risk = refl;
+  surplus-after-risk = refl;
   falling-number = refl;
   eight-layers = refl;
   ninth-layer = refl;
   ninth-and-overlapping = refl;
+  ninth-far-below = refl;
+  ninth-cat = refl;
+  ninth-cat-and-overlapping = refl;
   late-and-overlapping = refl;
   touching = refl;
   overlapping = refl;
