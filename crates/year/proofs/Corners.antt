@@ -2,7 +2,7 @@
 -- lent, and opening. The expectations are by hand.
 -- Assumes nothing.
 use mathlib.Core.Path.{_≡_, refl}
-use mathlib.Core.List.{[], _∷_}
+use mathlib.Core.List.{[], _∷_, _++_}
 use Prim.Native.Nat.{ℕ}
 use Prim.Native.String.{String}
 use lib.ListN.{replicate}
@@ -14,7 +14,7 @@ use Rattle.text.specs.Lines.{linesOf}
 use Rattle.treaty.specs.Treaty.{quotaOf}
 use Rattle.layer.specs.Layer.{termsOf, placedOf, recoveredOf, premiumOf, recoveryOf, chargeOf}
 use Rattle.answer.specs.declared.Answer.{Answer}
-use Rattle.answer.specs.Outcome.{fitted, answerOf, bufferAfter}
+use Rattle.answer.specs.Outcome.{Outcome, fitted, answerOf, bufferAfter}
 use Rattle.programme.specs.declared.contract.Programme.{Programme}
 use Rattle.programme.specs.Contracts.{noContracts, programmeOf}
 use Rattle.programme.specs.Ranges.{outside, treatyOutside, termsOutside, treatyNotZero, termsNotZero}
@@ -26,7 +26,7 @@ use Rattle.year.specs.declared.Standing.{Standing}
 use Rattle.year.specs.Event.{subjectOf}
 use Rattle.year.specs.Statement.{statementText}
 use Rattle.year.specs.Standing.{fresh, standingPasses, openOf}
-use Rattle.year.specs.Run.{runFrom, runOf, standingAfter}
+use Rattle.year.specs.Run.{Left, runFrom, runOf, standingAfter}
 use Rattle.year.proofs.Examples.{standing}
 
 -- one treaty, one risk layer with a cap of 3,100 and one catastrophe layer with a cap of 3,000
@@ -51,6 +51,10 @@ answer p s text room = answerOf (runOf p s (bytes text) room)
 
 abbrev told : (refusal number : ℕ) → Answer
 told n w = record { refusal = n; number = w }
+
+-- the run of an empty text from a standing with this day
+abbrev emptyRun : ℕ → Outcome Left
+emptyRun d = runOf programme (standing (1234 ∷ []) (567 ∷ []) d) [] 999
 
 pub record Corners : Type 0 where
   -- 6, and 6 before 8
@@ -81,6 +85,25 @@ pub record Corners : Type 0 where
   pub exact : answer programme fresh "" 225 ≡ told 0 225
   pub no-buffer : answer programme fresh "" 0 ≡ told 7 225
   pub short-left : bufferAfter (runOf programme fresh [] 224) (replicate 224 7) ≡ replicate 224 7
+  -- an empty text is accepted and keeps the last day: its statement has the lines of the standing lent and no events
+  pub kept : answerOf (emptyRun 230) ≡ told 0 229
+  pub kept-standing : standingAfter (emptyRun 230) (standing (1234 ∷ []) (567 ∷ []) 230)
+      ≡ record {
+        risk = 1234 ∷ 0 ∷ 0 ∷ 0 ∷ 0 ∷ 0 ∷ 0 ∷ 0 ∷ [];
+        cat = 567 ∷ 0 ∷ 0 ∷ 0 ∷ 0 ∷ 0 ∷ 0 ∷ 0 ∷ [];
+        day = 230;
+      }
+  pub kept-last-day : standingAfter (emptyRun 366) (standing (1234 ∷ []) (567 ∷ []) 366)
+      ≡ record {
+        risk = 1234 ∷ 0 ∷ 0 ∷ 0 ∷ 0 ∷ 0 ∷ 0 ∷ 0 ∷ [];
+        cat = 567 ∷ 0 ∷ 0 ∷ 0 ∷ 0 ∷ 0 ∷ 0 ∷ 0 ∷ [];
+        day = 366;
+      }
+  pub kept-statement : bufferAfter (emptyRun 230) (replicate 230 7)
+      ≡ bytes "(treaty 2 (ceded 0))\n"
+      ++ bytes "(layer risk 1 (deductible 0) (cover 1866) (recovered 377) (premium 150))\n"
+      ++ bytes "(layer cat 1 (deductible 0) (cover 2433) (recovered 408) (premium 0))\n"
+      ++ bytes "(total (gross 0) (ceded 0) (risk 0) (cat 0) (net 0) (premium 0))\n" ++ (7 ∷ [])
   -- a standing that is refused stays as lent
   pub broken-left : standingAfter (runOf programme (standing (3101 ∷ []) [] 367) [] 999) (standing (3101 ∷ []) [] 367)
       ≡ standing (3101 ∷ []) [] 367
@@ -119,6 +142,10 @@ corners = record {
   exact = refl;
   no-buffer = refl;
   short-left = refl;
+  kept = refl;
+  kept-standing = refl;
+  kept-last-day = refl;
+  kept-statement = refl;
   broken-left = refl;
   no-contracts = refl;
   opened = refl;
