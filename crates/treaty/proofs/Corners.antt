@@ -12,7 +12,7 @@ use Rattle.treaty.specs.Losses.{cededIn, cededOfEach}
 
 -- two treaties with event limits, and the losses of one event, in which the losses of each stand between the other's
 abbrev quotaShare : Treaty
-quotaShare = quotaOf 1 5000 0 9000
+quotaShare = quotaOf 1 3750 0 9000
 
 abbrev surplus : Treaty
 surplus = surplusOf 3 1000 4 5000
@@ -67,8 +67,8 @@ pub record Corners : Type 0 where
       ≡ 4400 ∷ 1020 ∷ 1600 ∷ 0 ∷ []
   -- U of each treaty is the sum of its own earlier g: 3,000 and 4,500 before the second and third loss of the surplus,
   -- 8,000 before the second of the quota share
-  pub own-totals : cededOfEach (quotaShare ∷ surplus ∷ []) [] mixed ≡ 2250 ∷ 4000 ∷ 0 ∷ 1125 ∷ 500 ∷ 400 ∷ []
-  pub own-quota : cessions quotaShare mixed ≡ 4000 ∷ 500 ∷ []
+  pub own-totals : cededOfEach (quotaShare ∷ surplus ∷ []) [] mixed ≡ 2250 ∷ 3000 ∷ 0 ∷ 1125 ∷ 375 ∷ 400 ∷ []
+  pub own-quota : cessions quotaShare mixed ≡ 3000 ∷ 375 ∷ []
   pub own-surplus : cessions surplus mixed ≡ 2250 ∷ 1125 ∷ 400 ∷ []
 
 pub corners : Corners
