@@ -5,7 +5,8 @@ the list of other words. A place after a list of names, `a`, `b` (place) or (`a`
 a file where all of them are declared, and so is the file of a column of that heading; names 'of' a record are its
 fields. Names after 'must-fail', or in a column of that heading, are edits, with the crate where two crates have one
 of that name. In a longer piece of code only words of a form that no plain word has are looked at. A file, folder or
-heading that is named exists. Every edit is named in docs/PROMISES.md.
+heading that is named exists. Every edit is named in docs/PROMISES.md, every crate in crates.txt and in README's
+picture of them.
 """
 
 import bisect
@@ -110,7 +111,7 @@ class Check:
         is_file = re.search(rf"\.{documents.EXTENSION}$", path)
         if parts[0] == "target" or ".." in parts or path.rstrip("/") in PARTS:
             return
-        if not is_file and parts[0] not in self.tops:
+        if not is_file and parts[0] in (".", *PARTS):
             return
         self.paths += 1
         if folder:
@@ -133,6 +134,15 @@ class Check:
             self.fault(at, f"no such file: {path}")
         elif heading and heading not in documents.headings(target.read_text()):
             self.fault(at, f"no such heading: {heading}")
+
+    def rooms(self):
+        """The folders of crates/, the crates of crates.txt and those that README's picture draws."""
+        listed = set(re.findall(r"(?m)^(\w+):", (ROOT / "crates.txt").read_text()))
+        picture = re.search(r"(?ms)those before it:\n\n((?:    .*\n?)*)", (ROOT / "README.md").read_text())
+        drawn = set(re.findall(r"\w+", picture[1] if picture else ""))
+        self.faults += [f"crates.txt: no such crate: {name}" for name in sorted(listed - self.declared.crates)]
+        self.faults += [f"crates/{name}: not in crates.txt" for name in sorted(self.declared.crates - listed)]
+        self.faults += [f"README.md: the picture lacks the crate {name}" for name in sorted(listed - drawn)]
 
     def unnamed(self):
         """The edits that docs/PROMISES.md does not name, and the other words that no document has."""
@@ -163,6 +173,7 @@ def main(others_file, *names):
     check = Check(others_file)
     for name in names:
         check.document(name)
+    check.rooms()
     edits = check.unnamed()
     for fault in check.faults:
         print(fault, file=sys.stderr)

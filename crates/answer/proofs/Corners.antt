@@ -5,11 +5,11 @@ use mathlib.Core.List.{List}
 use Prim.Native.Nat.{ℕ}
 use lib.ListN.{length}
 use Rattle.text.specs.Bytes.{bytes}
-use Rattle.answer.specs.Outcome.{Outcome, Nothing, nothing, refused, fitted, answerOf, bufferAfter}
+use Rattle.answer.specs.Outcome.{Outcome, TextOnly, textOnly, refused, fitted, answerOf, bufferAfter}
 
 -- a text of five bytes for a buffer
-abbrev five : List ℕ → Outcome Nothing
-five d = fitted (length d) (bytes "(a 1)") nothing
+abbrev five : List ℕ → Outcome TextOnly
+five d = fitted (length d) (bytes "(a 1)") textOnly
 
 pub record Corners : Type 0 where
   -- 7 and the length needed; the buffer is as lent
@@ -22,8 +22,8 @@ pub record Corners : Type 0 where
   pub long : answerOf (five (bytes "#######")) ≡ record { refusal = 0; number = 5 }
   pub long-left : bufferAfter (five (bytes "#####xy")) (bytes "#####xy") ≡ bytes "(a 1)xy"
   -- another refusal, with its second number
-  pub other : answerOf {A = Nothing} (refused 14 3) ≡ record { refusal = 14; number = 3 }
-  pub other-left : bufferAfter {A = Nothing} (refused 14 3) (bytes "ab") ≡ bytes "ab"
+  pub other : answerOf {A = TextOnly} (refused 14 3) ≡ record { refusal = 14; number = 3 }
+  pub other-left : bufferAfter {A = TextOnly} (refused 14 3) (bytes "ab") ≡ bytes "ab"
 
 pub corners : Corners
 unfolding fitted

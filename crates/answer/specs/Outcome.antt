@@ -13,9 +13,9 @@ pub data Outcome (A : Type 0) : Type 0 where
   refused : (refusal number : ℕ) → Outcome A
   written : (text : List ℕ) (left : A) → Outcome A
 
--- what a call leaves that leaves the text alone
-pub data Nothing : Type 0 where
-  nothing : Nothing
+-- what is left besides the text by a call that leaves nothing besides
+pub data TextOnly : Type 0 where
+  textOnly : TextOnly
 
 -- a text for a buffer of `room` bytes: 7 and the length needed, where it is longer
 unfoldable pub fitted : {A : Type 0} (room : ℕ) (text : List ℕ) (left : A) → Outcome A

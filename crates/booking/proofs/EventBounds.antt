@@ -24,12 +24,12 @@ use Rattle.year.specs.Event.{Year, leftByTreaties, subjectOf, eventAmounts}
 use Rattle.year.specs.Statement.{amountsNumbers}
 
 -- the layers of one tier that may stand in a year
-pub record SoundLayers (ls : List Layer) : Type 0 where
+pub record RisingLayers (ls : List Layer) : Type 0 where
   pub few : length ls ≤ 8
   pub each : Each Sound ls
   pub rising : Rising 0 ls
 
-pub tier-layers : (t : Tier) → SoundTier t → SoundLayers (layersOf t)
+pub tier-layers : (t : Tier) → SoundTier t → RisingLayers (layersOf t)
 tier-layers t s = record {
   few = omega (arith, length-take (t .count) (t .layers), s .count);
   each = s .each;
@@ -37,7 +37,7 @@ tier-layers t s = record {
 }
 
 -- what they charge
-pub charges-small : (ys : List ℕ) (ls : List Layer) → SoundLayers ls → chargesThrough ys ls ≤ 32 * 10 ^ 13
+pub charges-small : (ys : List ℕ) (ls : List Layer) → RisingLayers ls → chargesThrough ys ls ≤ 32 * 10 ^ 13
 charges-small ys ls s = omega (arith, charges-through-le ys ls (s .each), s .few)
 
 -- what the losses of an event come to
@@ -49,8 +49,8 @@ gross-small xs r few =
 -- a year, its treaties and an event that may be booked
 pub record Bookable (ts : List Treaty) (y : Year) (e : Event) : Type 0 where
   pub cedes : Each (λ (t : Treaty). t .cede ≤ 10000) ts
-  pub risk : SoundLayers (y .risk)
-  pub cat : SoundLayers (y .cat)
+  pub risk : RisingLayers (y .risk)
+  pub cat : RisingLayers (y .cat)
   pub losses : Each LossInRange (e .losses)
   pub few : length (e .losses) ≤ 64
 

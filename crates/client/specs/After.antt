@@ -5,5 +5,6 @@ use Rattle.year.specs.declared.Standing.{Standing}
 use Rattle.year.specs.Run.{Left, standingAfter}
 use Rattle.client.specs.declared.After.{After}
 
+-- of an outcome, from the standing lent
 abbrev pub afterOf : Outcome Left → Standing → After
 afterOf o lent = record { answer = answerOf o; standing = standingAfter o lent }

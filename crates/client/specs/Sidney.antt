@@ -17,6 +17,7 @@ tableText =
     ++ bytes "(cat (band 100000000 150000000) (deduct 0) (back 1 5000 75000000) (placed 8000))\n"
     ++ bytes "(cat (band 250000000 150000000) (deduct 0) (back 1 10000 30000000) (placed 7200))\n"
 
+-- the events text, and the statement that its run writes
 abbrev pub eventsText : List ℕ
 eventsText = bytes "(event 230 (loss 0 350000000 350000000))\n"
 
@@ -43,6 +44,7 @@ noLayer = record {
   placed = 0;
 }
 
+-- a kind without contracts, in its eight places
 abbrev noTreaties : Treaties
 noTreaties = record {
   places = noTreaty ∷ noTreaty ∷ noTreaty ∷ noTreaty ∷ noTreaty ∷ noTreaty ∷ noTreaty ∷ noTreaty ∷ [];

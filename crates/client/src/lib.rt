@@ -37,14 +37,31 @@ pub fn run_lent(programme: Programme, standing: Standing, events: &[u8], buffer:
     }
 }
 
+// The table of H1: no refusal, no line, and its programme place by place.
+pub fn read_sidney(table: &[u8]) -> Reading
+    requires { ⌜ now table ≡ tableText ⌝ }
+    ensures { λ r. ⌜ r ≡ record { refusal = 0; line = 0; programme = sidney } ⌝ }
+{
+    cession::cession_read(table)
+}
+
+// Its year: no refusal, and the standing of a fresh year.
+pub fn open_sidney(programme: Programme) -> Opening
+    requires { ⌜ programme ≡ sidney ⌝ }
+    ensures { λ r. ⌜ r
+        ≡ record { refusal = 0; number = 0; standing = record { risk = zeros; cat = zeros; day = 0 } } ⌝ }
+{
+    cession::cession_open(programme)
+}
+
 // The table read, a year opened, the event run: the statement stands in the buffer before its last byte.
 pub fn run_sidney(table: &[u8], events: &[u8], buffer: &mut [u8]) -> After
     requires { ⌜ (now table ≡ tableText) × (now events ≡ eventsText) × (now buffer ≡ replicate 444 35) ⌝ }
     ensures { λ r. ⌜ (r ≡ record { answer = record { refusal = 0; number = 443 }; standing = afterwards })
         × (now (buffer .exit) ≡ statement ++ (35 ∷ [])) ⌝ }
 {
-    let reading = cession::cession_read(table);
-    let opening = cession::cession_open(reading.programme);
+    let reading = read_sidney(table);
+    let opening = open_sidney(reading.programme);
     run_lent(reading.programme, opening.standing, events, buffer)
 }
 
@@ -68,7 +85,7 @@ pub fn write_sidney(table: &[u8], buffer: &mut [u8]) -> Answer
     ensures { λ r. ⌜ (r ≡ record { refusal = 0; number = 240 })
         × (now (buffer .exit) ≡ tableText ++ (35 ∷ 35 ∷ 35 ∷ [])) ⌝ }
 {
-    let reading = cession::cession_read(table);
+    let reading = read_sidney(table);
     cession::cession_write(reading.programme, buffer)
 }
 

@@ -78,7 +78,7 @@ allHeld = record {
 }
 
 -- its contracts
-abbrev allContracts : Contracts
+abbrev pub allContracts : Contracts
 allContracts = record {
   treaties = quotaOf 2 4000 20000 15000 ∷ surplusOf 5 10000 3 0 ∷ [];
   risk = termsOf 50 51 7 1 20000 9 3333 ∷ [];

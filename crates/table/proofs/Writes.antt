@@ -9,7 +9,7 @@ use lib.ListN.{length}
 use Rattle.text.specs.Buffer.{Put}
 use Rattle.text.proofs.Puts.{no-bytes}
 use Rattle.answer.specs.declared.Answer.{Answer}
-use Rattle.answer.specs.Outcome.{refused, nothing, fitted, answerOf, bufferAfter}
+use Rattle.answer.specs.Outcome.{refused, textOnly, fitted, answerOf, bufferAfter}
 use Rattle.answer.proofs.Outcomes.{too-long, fits, put-after}
 use Rattle.programme.specs.declared.contract.Programme.{Programme}
 use Rattle.programme.specs.Valid.{valid}
@@ -38,7 +38,7 @@ module _ (p : Programme) (t : Bool) (e : t ≡ valid p) where
       size : length (textOf p) ≡ n
       size = omega (arith, measured .place)
 
-      outcome-fitted : writeOf p (length d) ≡ fitted (length d) (textOf p) nothing
+      outcome-fitted : writeOf p (length d) ≡ fitted (length d) (textOf p) textOnly
       unfolding writeOf
       outcome-fitted = simp (writeOf, is-valid f)
 
@@ -46,7 +46,7 @@ module _ (p : Programme) (t : Bool) (e : t ≡ valid p) where
       module _ (h : length (m′ ++ d) < n) where
         outcome-7 : writeOf p (length d) ≡ refused 7 n
         outcome-7 =
-            outcome-fitted ∙ too-long (length d) (textOf p) nothing (rw (no-bytes m′ d none, ← size) at h) ∙ rw size
+            outcome-fitted ∙ too-long (length d) (textOf p) textOnly (rw (no-bytes m′ d none, ← size) at h) ∙ rw size
 
         pub answer-7 : _≡_ {A = Answer} (record { refusal = 7; number = n }) (answerOf (writeOf p (length d)))
         answer-7 = rw outcome-7 refl
@@ -60,10 +60,10 @@ module _ (p : Programme) (t : Bool) (e : t ≡ valid p) where
         within = let l = rw (no-bytes m′ d none) at h in omega (arith, size)
 
         pub answer-text : _≡_ {A = Answer} (record { refusal = 0; number = n }) (answerOf (writeOf p (length d)))
-        answer-text = rw (outcome-fitted, fits (length d) (textOf p) nothing within, size) refl
+        answer-text = rw (outcome-fitted, fits (length d) (textOf p) textOnly within, size) refl
 
         pub buffer-text : {d′ : List ℕ} {end : ℕ} → Put (m′ ++ d) 0 (textOf p) d′ end
             → d′ ≡ bufferAfter (writeOf p (length d)) d
         buffer-text q =
             let r = rw (no-bytes m′ d none) at q in
-            rw outcome-fitted (put-after (textOf p) d nothing r (omega (arith, within, r .place)))
+            rw outcome-fitted (put-after (textOf p) d textOnly r (omega (arith, within, r .place)))

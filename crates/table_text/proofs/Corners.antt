@@ -10,16 +10,15 @@ use Rattle.text.specs.Number.{printedBy, printed, digitOf, readOn, number}
 use Rattle.text.specs.Template.{capital, filled, matched, wholeOf, lineNumbers}
 use Rattle.text.specs.Lines.{linesOf, joined}
 use Rattle.treaty.specs.declared.Treaty.{Treaty}
-use Rattle.treaty.specs.Treaty.{quotaOf, surplusOf}
 use Rattle.layer.specs.declared.terms.Terms.{Terms}
 use Rattle.layer.specs.Layer.{termsOf}
-use Rattle.answer.specs.Outcome.{refused, written, nothing, fitted, answerOf, bufferAfter}
+use Rattle.answer.specs.Outcome.{refused, written, textOnly, fitted, answerOf, bufferAfter}
 use Rattle.programme.specs.declared.contract.Programme.{Programme}
 use Rattle.programme.specs.Contracts.{Contracts, noContracts, noTreaty, noTerms, programmeOf}
 use Rattle.programme.specs.Ranges.{outside, treatyOutside, termsOutside, treatyNotZero, termsNotZero}
 use Rattle.programme.specs.Rules.{treatyFault, layerFault}
 use Rattle.programme.specs.Valid.{validTreaties, validLayers, valid}
-use Rattle.programme.proofs.Corners.{zeroTerms, nothingHeld, allHeld, eightTerms, withRisk}
+use Rattle.programme.proofs.Corners.{zeroTerms, nothingHeld, allContracts, allHeld, eightTerms, withRisk}
 use Rattle.table_text.specs.declared.Reading.{Reading}
 use Rattle.table_text.specs.Forms.{kindOf, formOfKind, formOf, treatyLine}
 use Rattle.table_text.specs.Read.{refusedAt, readAs, readFrom, readOf}
@@ -39,13 +38,6 @@ allForms =
     ∷ "(surplus 5 (retain 10000) (lines 3) (event 0))"
     ∷ "(risk (band 50 51) (deduct 7) (back 1 20000 9) (placed 3333))"
     ∷ "(cat (band 40 60) (deduct 0) (back 20 5000 1000000000000) (placed 7200))" ∷ []
-
-abbrev allContracts : Contracts
-allContracts = record {
-  treaties = quotaOf 2 4000 20000 15000 ∷ surplusOf 5 10000 3 0 ∷ [];
-  risk = termsOf 50 51 7 1 20000 9 3333 ∷ [];
-  cat = termsOf 40 60 0 20 5000 1000000000000 7200 ∷ [];
-}
 
 -- the table of document 01's H1
 abbrev sidney : List String
@@ -251,10 +243,10 @@ pub record Corners : Type 0 where
       ∷ "none" ∷ [])
       ≡ refusedAt 5 2
   -- writing: the text, its length with 7
-  pub writes : writeOf (programmeOf sidneyContracts) 240 ≡ written (text sidney) nothing
-  pub exactly : writeOf (programmeOf allContracts) 235 ≡ written (text allForms) nothing
+  pub writes : writeOf (programmeOf sidneyContracts) 240 ≡ written (text sidney) textOnly
+  pub exactly : writeOf (programmeOf allContracts) 235 ≡ written (text allForms) textOnly
   pub one-short : writeOf (programmeOf allContracts) 234 ≡ refused 7 235
-  pub no-lines : writeOf (programmeOf noContracts) 0 ≡ written [] nothing
+  pub no-lines : writeOf (programmeOf noContracts) 0 ≡ written [] textOnly
   -- 6: a range, unused places that are not 0, kinds, a term of the other kind
   pub limit-1 : writeOf (withRisk 1 (alone (termsOf 0 1 0 0 0 0 0))) 0 ≡ refused 7 53
   pub limit-0 : writeOf (withRisk 1 (alone (termsOf 0 0 0 0 0 0 0))) 0 ≡ refused 6 0

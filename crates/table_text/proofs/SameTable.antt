@@ -9,7 +9,7 @@ use lib.ListN.{length}
 use Rattle.lists.specs.Each.{Each}
 use Rattle.lists.proofs.Cases.{by-test}
 use Rattle.text.proofs.Ascii.{Byte}
-use Rattle.answer.specs.Outcome.{Outcome, Nothing, written, nothing}
+use Rattle.answer.specs.Outcome.{Outcome, TextOnly, written, textOnly}
 use Rattle.answer.proofs.Outcomes.{fits, either-way}
 use Rattle.programme.specs.declared.contract.Programme.{Programme}
 use Rattle.programme.specs.Valid.{valid}
@@ -33,20 +33,21 @@ valid-exactly p = (
 
 -- a text that is read as a programme is what writing the programme gives, byte for byte, where the buffer has the room
 pub read-then-write : (s : List ℕ) (p : Programme) (room : ℕ) → readOf s ≡ readAs p → length s ≤ room
-    → writeOf p room ≡ written s nothing
+    → writeOf p room ≡ written s textOnly
 unfolding writeOf
 read-then-write s p room e h =
     let w = read-written s p e in
     let k : length (textOf p) ≤ room = rw w at h in
-    simp (writeOf, read-valid s p e) (fits room (textOf p) nothing k ∙ ap (λ (t : List ℕ). written t nothing) (sym w))
+    simp (writeOf, read-valid s p e)
+    (fits room (textOf p) textOnly k ∙ ap (λ (t : List ℕ). written t textOnly) (sym w))
 
 -- a text that writing a programme gives is read as the programme
-pub write-then-read : (p : Programme) (room : ℕ) (s : List ℕ) → writeOf p room ≡ written s nothing
+pub write-then-read : (p : Programme) (room : ℕ) (s : List ℕ) → writeOf p room ≡ written s textOnly
     → readOf s ≡ readAs p
 unfolding writeOf
 write-then-read p room s e =
     by-test (valid p)
-    (λ v. either-way room (textOf p) nothing (λ (o : Outcome Nothing). o ≡ written s nothing → readOf s ≡ readAs p)
+    (λ v. either-way room (textOf p) textOnly (λ (o : Outcome TextOnly). o ≡ written s textOnly → readOf s ≡ readAs p)
     (λ h q. let text : textOf p ≡ s = cc in rw (← text) (written-read p (sym v)))
     (λ h q. let n : _≡_ {A = ℕ} 0 1 = cc in absurd (omega arith)) (simp (writeOf, ← v) at e))
     (λ v. let n : _≡_ {A = ℕ} 0 1 = cc (simp (writeOf, ← v) at e) in absurd (omega arith))

@@ -13,6 +13,7 @@ use Rattle.events.specs.Event.{Event}
 use Rattle.year.specs.Event.{Year, subjectOf}
 use Rattle.year.specs.Statement.{Statement, statementOf}
 
+-- a quota share with an event limit, and a surplus
 abbrev treaties : List Treaty
 treaties = quotaOf 4 3333 0 3700 ∷ surplusOf 6 900 3 0 ∷ []
 

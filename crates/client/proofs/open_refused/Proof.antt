@@ -1,7 +1,7 @@
 -- `client::open_refused` meets its contract.
 -- Assumes nothing.
 use borrow.Author.Needs.{needs}
-use Rattle.client.proofs.Figures as law
+use Rattle.client.proofs.Computed as law
 use Rattle.client.proofs.open_refused.Statement.{statement}
 use Rattle.client.proofs.open_refused.Tie as tie
 

@@ -1,7 +1,7 @@
 -- `client::run_refused` meets its contract.
 -- Assumes nothing.
 use borrow.Author.Needs.{needs}
-use Rattle.client.proofs.Figures as law
+use Rattle.client.proofs.Computed as law
 use Rattle.client.proofs.run_refused.Statement.{statement}
 use Rattle.client.proofs.run_refused.Tie as tie
 

@@ -1,15 +1,15 @@
 -- `client::run_sidney` meets its contract.
 -- Assumes nothing.
 use borrow.Author.Needs.{needs}
-use Rattle.client.proofs.Figures as law
+use Rattle.client.proofs.Computed as law
 use Rattle.client.proofs.run_sidney.Statement.{statement}
 use Rattle.client.proofs.run_sidney.Tie as tie
 
-cession-read-requires : tie.Need-cession-read-requires
-cession-read-requires c κs = search needs
+read-sidney-requires : tie.Need-read-sidney-requires
+read-sidney-requires c κs = search needs
 
-cession-open-requires : tie.Need-cession-open-requires
-cession-open-requires c κs = search needs
+open-sidney-requires : tie.Need-open-sidney-requires
+open-sidney-requires c κs = search law.programme-is
 
 run-lent-requires : tie.Need-run-lent-requires
 run-lent-requires c κs = search needs
@@ -23,4 +23,4 @@ returns c = (search law.run-after, search law.run-bytes)
 pub run-sidney-spec : {M : Type 1} → statement M
 run-sidney-spec =
     tie.close
-    (tie.spec cession-read-requires cession-open-requires run-lent-requires same-length returns)
+    (tie.spec read-sidney-requires open-sidney-requires run-lent-requires same-length returns)

@@ -1,7 +1,7 @@
 -- `client::write_refused` meets its contract.
 -- Assumes nothing.
 use borrow.Author.Needs.{needs}
-use Rattle.client.proofs.Figures as law
+use Rattle.client.proofs.Computed as law
 use Rattle.client.proofs.write_refused.Statement.{statement}
 use Rattle.client.proofs.write_refused.Tie as tie
 

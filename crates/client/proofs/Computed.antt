@@ -46,7 +46,7 @@ overTheWhole =
     bytes "(risk (band 1 1) (deduct 0) (back 0 0 0) (placed 10000))\n"
     ++ bytes "(cat (band 1 1) (deduct 0) (back 0 0 0) (placed 10001))\n"
 
-record Figures : Type 0 where
+record Computed : Type 0 where
   pub read : readOf tableText ≡ record { refusal = 0; line = 0; programme = sidney }
   pub not-read : readOf overTheWhole ≡ record { refusal = 3; line = 2; programme = noProgramme }
   pub opened : openOf sidney ≡ record { refusal = 0; number = 0; standing = none }
@@ -59,7 +59,7 @@ record Figures : Type 0 where
   pub ran-bytes : bufferAfter (runOf sidney none eventsText 444) (replicate 444 35) ≡ statement ++ (35 ∷ [])
   pub not-run : (room : ℕ) → runOf sidney afterwards (bytes "(event 367)\n") room ≡ refused 11 1
 
-figures : Figures
+computed : Computed
 unfolding
     rounded printedBy printed digitOf readOn number capital filled matched wholeOf lineNumbers linesOf
     coveredPart cededByQuota cededBySurplus cededOf cededOfLoss placedOf recoveredOf premiumOf recoveryOf
@@ -67,7 +67,7 @@ unfolding
     treatyFault layerFault readFrom readOf validTreaties validLayers valid closes lossesUpTo eventOf lossOutside
     eventOutside lacking eventFault eventsOf eventsFrom cededIn subjectOf statementText openOf standingPasses fitted
     writeOf runFrom runOf
-figures = record {
+computed = record {
   read = refl;
   not-read = refl;
   opened = refl;
@@ -82,58 +82,66 @@ figures = record {
 }
 
 -- as the calls' contracts have them
+pub reading-is : {s : List ℕ} {r : Reading} → s ≡ tableText → r ≡ readOf s
+    → r ≡ record { refusal = 0; line = 0; programme = sidney }
+reading-is e f = f ∙ ap readOf e ∙ computed .read
+
+pub opening-is : {p : Programme} {r : Opening} → p ≡ sidney → r ≡ openOf p
+    → r ≡ record { refusal = 0; number = 0; standing = none }
+opening-is e f = f ∙ ap openOf e ∙ computed .opened
+
 pub read-turned-down : {s : List ℕ} {r : Reading} → s ≡ overTheWhole → r ≡ readOf s
     → r ≡ record { refusal = 3; line = 2; programme = noProgramme }
-read-turned-down e f = f ∙ ap readOf e ∙ figures .not-read
+read-turned-down e f = f ∙ ap readOf e ∙ computed .not-read
 
 pub opening-turned-down : {p : Programme} {r : Opening} → p ≡ unusedPlace → r ≡ openOf p
     → r ≡ record { refusal = 6; number = 0; standing = none }
-opening-turned-down e f = f ∙ ap openOf e ∙ figures .not-opened
+opening-turned-down e f = f ∙ ap openOf e ∙ computed .not-opened
 
 -- a table that is read
-module _ {t : List ℕ} {r : Reading} (a : t ≡ tableText) (b : r ≡ readOf t) where
-  programme-is : r .programme ≡ sidney
-  programme-is = ap (λ (r : Reading). r .programme) (b ∙ ap readOf a ∙ figures .read)
+module _ {r : Reading} (a : r ≡ record { refusal = 0; line = 0; programme = sidney }) where
+  pub programme-is : r .programme ≡ sidney
+  programme-is = ap (λ (r : Reading). r .programme) a
 
   -- and written again
   module _ {d : List ℕ} (e : d ≡ replicate 243 35) where
     pub table-answer : {n : Answer} → n ≡ answerOf (writeOf (r .programme) (length d))
         → n ≡ record { refusal = 0; number = 240 }
-    table-answer f = rw (programme-is, e) at f ∙ figures .wrote
+    table-answer f = rw (programme-is, e) at f ∙ computed .wrote
 
     pub table-bytes : {d′ : List ℕ} → d′ ≡ bufferAfter (writeOf (r .programme) (length d)) d
         → d′ ≡ tableText ++ (35 ∷ 35 ∷ 35 ∷ [])
-    table-bytes f = rw (programme-is, e) at f ∙ figures .wrote-bytes
+    table-bytes f = rw (programme-is, e) at f ∙ computed .wrote-bytes
 
   -- and for whose programme a year is opened and the event run
-  module _ {o : Opening} (c : o ≡ openOf (r .programme)) {s d : List ℕ} (e : s ≡ eventsText)
-      (f : d ≡ replicate 444 35) where
+  module _ {o : Opening} (c : o ≡ record { refusal = 0; number = 0; standing = none }) {s d : List ℕ}
+      (e : s ≡ eventsText) (f : d ≡ replicate 444 35) where
     standing-is : o .standing ≡ none
-    standing-is = ap (λ (o : Opening). o .standing) (c ∙ ap openOf programme-is ∙ figures .opened)
+    standing-is = ap (λ (o : Opening). o .standing) c
 
     pub run-after : {x : After} → x ≡ afterOf (runOf (r .programme) (o .standing) s (length d)) (o .standing)
         → x ≡ record { answer = record { refusal = 0; number = 443 }; standing = afterwards }
     run-after g =
         rw (programme-is, standing-is, e, f) at g
-        ∙ (λ i. record { answer = figures .ran i; standing = figures .ran-standing i })
+        ∙ (λ i. record { answer = computed .ran i; standing = computed .ran-standing i })
 
     pub run-bytes : {d′ : List ℕ} → d′ ≡ bufferAfter (runOf (r .programme) (o .standing) s (length d)) d
         → d′ ≡ statement ++ (35 ∷ [])
-    run-bytes g = rw (programme-is, standing-is, e, f) at g ∙ figures .ran-bytes
+    run-bytes g = rw (programme-is, standing-is, e, f) at g ∙ computed .ran-bytes
 
 -- a buffer that is one byte short
 module _ {p : Programme} (d : List ℕ) (a : p ≡ sidney) (b : length d ≡ 239) where
   pub short-answer : {n : Answer} → n ≡ answerOf (writeOf p (length d)) → n ≡ record { refusal = 7; number = 240 }
-  short-answer f = rw (a, b, figures .not-written) at f
+  short-answer f = rw (a, b, computed .not-written) at f
 
   pub short-bytes : {d′ : List ℕ} → d′ ≡ bufferAfter (writeOf p (length d)) d → d′ ≡ d
-  short-bytes f = rw (a, b, figures .not-written) at f
+  short-bytes f = rw (a, b, computed .not-written) at f
 
 -- a day out of range
 module _ {p : Programme} {h : Standing} {s : List ℕ} (a : p ≡ sidney) (b : h ≡ afterwards)
     (c : s ≡ bytes "(event 367)\n") where
   refused-is : (room : ℕ) → runOf p h s room ≡ refused 11 1
-  refused-is room = rw (a, b, c) (figures .not-run room)
+  refused-is room = rw (a, b, c) (computed .not-run room)
 
   pub refused-after : (d : List ℕ) {x : After} → x ≡ afterOf (runOf p h s (length d)) h
       → x ≡ record { answer = record { refusal = 11; number = 1 }; standing = h }
