@@ -15,24 +15,24 @@ unfolding lossOutside
 loss-outside x a b c p q r = rw (p, q, r)
 
 -- the lowest fault, one test after the other
-module _ (outside count day before lacking : ℕ) where
-  pub fault-11 : 0 < outside → 11 ≡ lowestFault outside count day before lacking
-  fault-11 h = sym (rw (lt-ltb 0 outside h))
+module _ (out count day before lacks : ℕ) where
+  pub fault-11 : 0 < out → 11 ≡ lowestFault out count day before lacks
+  fault-11 h = sym (rw (lt-ltb 0 out h))
 
-  module _ (a : outside ≤ 0) where
-    pub fault-12 : 64 < count → 12 ≡ lowestFault outside count day before lacking
-    fault-12 h = sym (rw (le-ltb 0 outside a, lt-ltb 64 count h))
+  module _ (a : out ≤ 0) where
+    pub fault-12 : 64 < count → 12 ≡ lowestFault out count day before lacks
+    fault-12 h = sym (rw (le-ltb 0 out a, lt-ltb 64 count h))
 
     module _ (b : count ≤ 64) where
-      pub fault-13 : day < before → 13 ≡ lowestFault outside count day before lacking
-      fault-13 h = sym (rw (le-ltb 0 outside a, le-ltb 64 count b, lt-ltb day before h))
+      pub fault-13 : day < before → 13 ≡ lowestFault out count day before lacks
+      fault-13 h = sym (rw (le-ltb 0 out a, le-ltb 64 count b, lt-ltb day before h))
 
       module _ (c : before ≤ day) where
-        pub fault-14 : 0 < lacking → 14 ≡ lowestFault outside count day before lacking
-        fault-14 h = sym (rw (le-ltb 0 outside a, le-ltb 64 count b, le-ltb day before c, lt-ltb 0 lacking h))
+        pub fault-14 : 0 < lacks → 14 ≡ lowestFault out count day before lacks
+        fault-14 h = sym (rw (le-ltb 0 out a, le-ltb 64 count b, le-ltb day before c, lt-ltb 0 lacks h))
 
-        pub faultless : lacking ≤ 0 → 0 ≡ lowestFault outside count day before lacking
-        faultless h = sym (rw (le-ltb 0 outside a, le-ltb 64 count b, le-ltb day before c, le-ltb 0 lacking h))
+        pub faultless : lacks ≤ 0 → 0 ≡ lowestFault out count day before lacks
+        faultless h = sym (rw (le-ltb 0 out a, le-ltb 64 count b, le-ltb day before c, le-ltb 0 lacks h))
 
 -- a line that is closed has the fault of its event form
 pub closed-fault : (closed : Bool) (f n : ℕ) → closed ≡ true → n ≡ f → n ≡ cond closed f 10

@@ -8,7 +8,7 @@ use Rattle.layer.specs.declared.terms.Terms.{Terms}
 use Rattle.layer.specs.declared.record.Layer.{Layer}
 use Rattle.layer.specs.Layer.{termsOf, broughtBy, deductibleLeftOf, coverLeftOf, recoveredOf, premiumOf}
 use Rattle.layer.specs.Layer.{layerOf, placedOf, recoveryOf, chargeOf, recoveriesOf, chargesOf, afterSubject}
-use Rattle.layer.specs.Tier.{recoveriesBy, layersAfter, chargesThrough}
+use Rattle.layer.specs.Tier.{recoveriesBy, layersAfter, recoveriesThrough, chargesThrough, leftThrough}
 
 -- what a statement shows of a layer: deductible left, cover left, recovered, premium
 abbrev shown : Layer → List ℕ
@@ -64,6 +64,14 @@ pub record Corners : Type 0 where
   pub charged-by-tier : map (λ (xs : List ℕ). chargesThrough xs three)
       ((1660 ∷ []) ∷ (1660 ∷ 2650 ∷ []) ∷ (1660 ∷ 2650 ∷ 2382 ∷ []) ∷ [])
       ≡ 269 ∷ 1227 ∷ 1502 ∷ []
+  -- Recoveries of the same amounts, and what they leave. After the first the layers have recovered 166, 223 and 0; after
+  -- the second 399, 871 and 549; after the third 633, 1,296 and 831.
+  pub recovered-by-tier : map (λ (xs : List ℕ). recoveriesThrough xs three)
+      ((1660 ∷ []) ∷ (1660 ∷ 2650 ∷ []) ∷ (1660 ∷ 2650 ∷ 2382 ∷ []) ∷ [])
+      ≡ 389 ∷ 1819 ∷ 2760 ∷ []
+  pub left-by-tier : map (λ (xs : List ℕ). leftThrough xs three)
+      ((1660 ∷ []) ∷ (1660 ∷ 2650 ∷ []) ∷ (1660 ∷ 2650 ∷ 2382 ∷ []) ∷ [])
+      ≡ 1271 ∷ 2491 ∷ 3932 ∷ []
   -- every term at its largest, at the cap
   pub most : shown (layerOf largest 1210000000000000) ≡ 0 ∷ 0 ∷ 210000000000000 ∷ 40000000000000 ∷ []
   -- one subject of 120 to bands 10 40 and 50 100: both look at all of it; 3,333 bp of 40 is 13, 7,200 bp of 70 is 50
@@ -92,6 +100,8 @@ corners = record {
   premium-divided-last = refl;
   charged-in-turn = refl;
   charged-by-tier = refl;
+  recovered-by-tier = refl;
+  left-by-tier = refl;
   most = refl;
   one-subject = refl;
   one-subject-recovered = refl;

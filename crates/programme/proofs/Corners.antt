@@ -195,9 +195,35 @@ pub record Corners : Type 0 where
       ≡ 4 ∷ 4 ∷ 3 ∷ []
   -- a first cat layer after eight risk layers is none of theirs
   pub first-cat : faultOf (before [] eightTerms []) (Cat (termsOf 0 1 0 0 0 0 0)) ≡ 0
+  -- validity: a programme of every form, and the same with a used place taken for an unused one
+  pub all-valid : valid allHeld ≡ true
+  pub treaty-past-the-count : valid (record {
+    treaties = record { places = allHeld .treaties .places; count = 1 };
+    risk = allHeld .risk;
+    cat = allHeld .cat;
+  })
+      ≡ false
+  pub cat-past-the-count : valid (record {
+    treaties = allHeld .treaties;
+    risk = allHeld .risk;
+    cat = record { places = allHeld .cat .places; count = 0 };
+  })
+      ≡ false
+  -- bands of the cat layers that touch, and that overlap by a cent; two treaties with one T
+  pub cat-touching : valid (programmeOf (before [] [] (termsOf 50 50 0 0 0 0 7200 ∷ termsOf 100 1 0 0 0 0 7200 ∷ [])))
+      ≡ true
+  pub cat-overlapping :
+      valid (programmeOf (before [] [] (termsOf 50 50 0 0 0 0 7200 ∷ termsOf 99 1 0 0 0 0 7200 ∷ []))) ≡ false
+  pub one-number : valid (programmeOf (before (quotaOf 3 4000 0 0 ∷ surplusOf 3 10000 3 0 ∷ []) [] [])) ≡ false
   -- eight layers of a tier, and a count of nine
   pub eight-used : valid (withRisk 8 eightTerms) ≡ true
   pub nine-used : valid (withRisk 9 eightTerms) ≡ false
+  pub nine-cats : valid (record {
+    treaties = allHeld .treaties;
+    risk = allHeld .risk;
+    cat = record { places = eightTerms; count = 9 };
+  })
+      ≡ false
 
 pub corners : Corners
 unfolding outside treatyOutside termsOutside treatyNotZero termsNotZero treatyFault layerFault validTreaties
@@ -245,6 +271,13 @@ corners = record {
   ninth-risk = refl;
   ninth-cat = refl;
   first-cat = refl;
+  all-valid = refl;
+  treaty-past-the-count = refl;
+  cat-past-the-count = refl;
+  cat-touching = refl;
+  cat-overlapping = refl;
+  one-number = refl;
   eight-used = refl;
   nine-used = refl;
+  nine-cats = refl;
 }

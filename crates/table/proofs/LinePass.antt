@@ -100,8 +100,8 @@ module _ (s : List ℕ) (ts : List Treaty) (rs cs : List Terms) (before : Before
     cat = g .few-cat;
   }
 
-  progress : before ≡ beforeOf (g .contracts)
-  progress = λ i. record { treaties = g .treaties .last i; risk = g .risk .last i; cat = g .cat .last i }
+  as-before : before ≡ beforeOf (g .contracts)
+  as-before = λ i. record { treaties = g .treaties .last i; risk = g .risk .last i; cat = g .cat .last i }
 
   -- no line is left
   pub all-read : (r : Reading) → r ≡ readPlaces ts rs cs before → length s ≤ at
@@ -132,7 +132,7 @@ module _ (s : List ℕ) (ts : List Treaty) (rs cs : List Terms) (before : Before
 
       module _ (x : Contract) (v : f ≡ Line x) (n : ℕ) (z : n ≡ faultAfter before x) where
         fault : faultOf (g .contracts) x ≡ n
-        fault = sym (z ∙ ap (λ (p : Before). faultAfter p x) progress)
+        fault = sym (z ∙ ap (λ (p : Before). faultAfter p x) as-before)
 
         pub at-fault : (r : Reading) → r ≡ refusedAt n (number + 1) → (n ≡ 0 → ⊥)
             → r ≡ readFrom 1 noContracts (formsOf s)

@@ -31,7 +31,7 @@ use Rattle.table_text.specs.Read.{readAs, readFrom, readOf}
 use Rattle.table_text.proofs.Lines.{Fit, form-printed, line-no-feed, line-short}
 
 -- The lines of one kind, read one after another: `state` gives all contracts from those of this kind, `form` the
--- contract of one. One that passes after the last has no fault, and is withContract.
+-- contract of one. One that passes after the last has no fault, and joins the others.
 module _ {A : Type 0} (passes : ℕ → A → Bool) (figure : A → ℕ) (state : List A → Contracts) (form : A → Contract)
     (fine : (done : List A) (x : A) → length done < 8 → passes (lastBy figure 0 done) x ≡ true
     → faultOf (state done) (form x) ≡ 0)

@@ -2,12 +2,14 @@
 -- Assumes nothing.
 use mathlib.Core.Path.{_≡_, refl}
 use mathlib.Core.List.{[], _∷_, _++_}
+use mathlib.Core.Bool.{true, false}
 use mathlib.Core.Option.{none, some}
 use Prim.Native.Nat.{_+_, _*_, _^_}
 use Rattle.text.specs.Bytes.{bytes}
 use Rattle.text.specs.Number.{printedBy, printed, digits, digitOf, readOn, number, numberAt}
 use Rattle.text.specs.declared.number.Number.the-variants.{Value, Nothing}
-use Rattle.text.specs.Template.{capital, filled, matched, wholeOf, lineNumbers}
+use Rattle.text.specs.declared.template.Place.the-variants.{At, Nowhere}
+use Rattle.text.specs.Template.{capital, filled, matched, matchedAt, wholeOf, lineNumbers, numbersBy}
 use Rattle.text.specs.Lines.{linesOf, joined}
 
 pub record Corners : Type 0 where
@@ -46,6 +48,15 @@ pub record Corners : Type 0 where
   pub line-shorter : lineNumbers (bytes "(band A L)") (bytes "(band 50 100") ≡ none
   pub two-spaces : lineNumbers (bytes "(band A L)") (bytes "(band 50  100)") ≡ none
   pub a-letter : lineNumbers (bytes "(band A L)") (bytes "(band A 100)") ≡ none
+  -- at a place of a text, with the place after the form and eight numbers; of a whole line, whether it is the form
+  pub form-at : matchedAt (bytes "(a A)") (bytes "xyz (a 7) z") 4
+      ≡ record { place = At 9; values = 7 ∷ 0 ∷ 0 ∷ 0 ∷ 0 ∷ 0 ∷ 0 ∷ 0 ∷ [] }
+  pub no-form-at : matchedAt (bytes "(a A)") (bytes "xyz (a 7) z") 3
+      ≡ record { place = Nowhere; values = 0 ∷ 0 ∷ 0 ∷ 0 ∷ 0 ∷ 0 ∷ 0 ∷ 0 ∷ [] }
+  pub line-found : numbersBy (bytes "(band A L)") (bytes "(band 50 100)")
+      ≡ record { found = true; values = 50 ∷ 100 ∷ 0 ∷ 0 ∷ 0 ∷ 0 ∷ 0 ∷ 0 ∷ [] }
+  pub line-not-found : numbersBy (bytes "(band A L)") (bytes "(band 50 100) ")
+      ≡ record { found = false; values = 0 ∷ 0 ∷ 0 ∷ 0 ∷ 0 ∷ 0 ∷ 0 ∷ 0 ∷ [] }
   -- a tab for the space, and bytes after the form: a carriage return, a NUL, one above 127
   pub a-tab : lineNumbers (bytes "(band A L)") (bytes "(band" ++ (9 ∷ bytes "50 100)")) ≡ none
   pub carriage-return : lineNumbers (bytes "(band A L)") (bytes "(band 50 100)" ++ (13 ∷ [])) ≡ none
@@ -58,7 +69,8 @@ pub record Corners : Type 0 where
   pub put-together : joined (bytes "ab" ∷ [] ∷ []) ≡ bytes "ab\n\n"
 
 pub corners : Corners
-unfolding printedBy printed digitOf readOn number numberAt capital filled matched wholeOf lineNumbers linesOf
+unfolding printedBy printed digitOf readOn number numberAt capital filled matched matchedAt wholeOf lineNumbers
+    linesOf
 corners = record {
   zero-printed = refl;
   ten-printed = refl;
@@ -90,6 +102,10 @@ corners = record {
   line-shorter = refl;
   two-spaces = refl;
   a-letter = refl;
+  form-at = refl;
+  no-form-at = refl;
+  line-found = refl;
+  line-not-found = refl;
   a-tab = refl;
   carriage-return = refl;
   nul = refl;

@@ -6,7 +6,7 @@ use Prim.Native.Nat.{ℕ}
 use Rattle.arith.specs.Round.{rounded}
 use Rattle.treaty.specs.declared.Treaty.{Treaty}
 use Rattle.treaty.specs.declared.Loss.{Loss}
-use Rattle.treaty.specs.Treaty.{quotaOf, surplusOf, lossOf, cessions}
+use Rattle.treaty.specs.Treaty.{quotaOf, surplusOf, lossOf, cessions, cessionOf}
 use Rattle.treaty.specs.Treaty.{coveredPart, cededByQuota, cededBySurplus, cededOf, cededOfLoss}
 use Rattle.treaty.specs.Losses.{cededIn, cededOfEach}
 
@@ -44,6 +44,9 @@ pub record Corners : Type 0 where
   pub retained : cessions (surplusOf 1 10000 3 0) (lossOf 1 10000 8000 ∷ lossOf 1 10001 8000 ∷ []) ≡ 0 ∷ 0 ∷ []
   -- E equal to r × (1 + n), and one above it: 8,000 × 30,000 / 40,001
   pub upper-end : cessions (surplusOf 1 10000 3 0) (lossOf 1 40000 8000 ∷ lossOf 1 40001 8000 ∷ []) ≡ 6000 ∷ 5999 ∷ []
+  -- U 10,000 leaves 5,000 of the limit: 2,000 of 11,000 are ceded, 9,000 are left, and U is 21,000 then
+  pub one-cession : cessionOf (quotaOf 1 4000 0 15000) 10000 (lossOf 1 1 11000)
+      ≡ record { ceded = 2000; left = 9000; total = 21000 }
   -- E between r × n and r × (1 + n): 7,000 × 25,000 / 35,000
   pub between : cessions (surplusOf 1 10000 3 0) (lossOf 1 35000 7000 ∷ []) ≡ 5000 ∷ []
   -- rounded down, once, after the whole product: 102 × 5 / 7, and 102 × 3 × 2 / 11
@@ -85,6 +88,7 @@ corners = record {
   surplus-limited = refl;
   retained = refl;
   upper-end = refl;
+  one-cession = refl;
   between = refl;
   surplus-rounded = refl;
   retention-zero = refl;

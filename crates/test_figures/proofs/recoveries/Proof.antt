@@ -1,4 +1,4 @@
--- `figures::recoveries` meets its contract.
+-- `test_figures::recoveries` meets its contract.
 -- Assumes nothing.
 use Prim.Native.Nat.{_-_}
 use lib.ListN.{length}

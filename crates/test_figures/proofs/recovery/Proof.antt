@@ -1,4 +1,4 @@
--- `figures::recovery` meets its contract.
+-- `test_figures::recovery` meets its contract.
 -- Assumes nothing.
 use borrow.Author.Needs.{needs}
 use Rattle.layer.proofs.Records.{sound-after}

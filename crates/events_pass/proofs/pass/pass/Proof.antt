@@ -1,4 +1,4 @@
--- `lines::pass::pass` meets its contract.
+-- `events_pass::pass::pass` meets its contract.
 -- Assumes nothing.
 use mathlib.Core.Path.{sym}
 use mathlib.Core.Logic.{⊎-elim}

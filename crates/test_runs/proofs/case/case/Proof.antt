@@ -1,4 +1,4 @@
--- `runs::case::case` meets its contract.
+-- `test_runs::case::case` meets its contract.
 -- Assumes nothing.
 use mathlib.Core.Path.{sym}
 use lib.Seq.{length-take-le}

@@ -1,4 +1,4 @@
--- `runs::case::changed` meets its contract.
+-- `test_runs::case::changed` meets its contract.
 -- Assumes nothing.
 use Prim.Native.Nat.{_≤_, _-_}
 use lib.ListN.{length}

@@ -1,4 +1,4 @@
--- `runs::case::repeated` meets its contract.
+-- `test_runs::case::repeated` meets its contract.
 -- Assumes nothing.
 use Prim.Native.Nat.{_≤_, _-_}
 use mathlib.Core.Path.{_≡_}

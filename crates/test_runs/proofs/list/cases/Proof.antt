@@ -1,4 +1,4 @@
--- `runs::list::cases` meets its contract.
+-- `test_runs::list::cases` meets its contract.
 -- Assumes nothing.
 use Prim.Native.Nat.{_≤_, _-_}
 use lib.ListN.{length}

@@ -1,4 +1,4 @@
--- `runs::list::fields` meets its contract.
+-- `test_runs::list::fields` meets its contract.
 -- Assumes nothing.
 use mathlib.Core.Path.{sym}
 use lib.Seq.{length-take-le}

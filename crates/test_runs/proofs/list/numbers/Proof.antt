@@ -1,4 +1,4 @@
--- `runs::list::numbers` meets its contract.
+-- `test_runs::list::numbers` meets its contract.
 -- Assumes nothing.
 use Prim.Native.Nat.{_≤_, _-_}
 use borrow.Author.Needs.{needs}

@@ -1,4 +1,4 @@
--- `runs::show::eight` meets its contract.
+-- `test_runs::show::eight` meets its contract.
 -- Assumes nothing.
 use Prim.Native.Nat.{_≤_, _-_}
 use borrow.Author.Needs.{needs}

@@ -1,4 +1,4 @@
--- `tables::length::begun` meets its contract.
+-- `test_tables::length::begun` meets its contract.
 -- Assumes nothing.
 use Prim.Native.Nat.{_≤_, _-_}
 use mathlib.Core.Path.{_≡_}

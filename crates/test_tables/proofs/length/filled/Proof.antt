@@ -1,4 +1,4 @@
--- `tables::length::filled` meets its contract.
+-- `test_tables::length::filled` meets its contract.
 -- Assumes nothing.
 use mathlib.Core.Path.{sym}
 use lib.Seq.{length-take-le}

@@ -1,4 +1,4 @@
--- `tables::list::cases` meets its contract.
+-- `test_tables::list::cases` meets its contract.
 -- Assumes nothing.
 use Prim.Native.Nat.{_≤_, _-_}
 use lib.ListN.{length}

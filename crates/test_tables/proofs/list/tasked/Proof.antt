@@ -1,4 +1,4 @@
--- `tables::list::tasked` meets its contract.
+-- `test_tables::list::tasked` meets its contract.
 -- Assumes nothing.
 use mathlib.Core.Path.{sym}
 use lib.Seq.{length-take-le}

@@ -1,4 +1,4 @@
--- `tables::show::layer_places` meets its contract.
+-- `test_tables::show::layer_places` meets its contract.
 -- Assumes nothing.
 use Prim.Native.Nat.{_≤_, _-_}
 use borrow.Author.Needs.{needs}

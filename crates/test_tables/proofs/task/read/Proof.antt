@@ -1,4 +1,4 @@
--- `tables::task::read` meets its contract.
+-- `test_tables::task::read` meets its contract.
 -- Assumes nothing.
 use Prim.Native.Nat.{_≤_, _<_, _-_}
 use mathlib.Core.Path.{_≡_}

@@ -1,4 +1,4 @@
--- `tables::write::answer` meets its contract.
+-- `test_tables::write::answer` meets its contract.
 -- Assumes nothing.
 use mathlib.Core.Path.{sym}
 use lib.Seq.{length-take-le}

@@ -1,4 +1,4 @@
--- `tables::write::as_lent` meets its contract.
+-- `test_tables::write::as_lent` meets its contract.
 -- Assumes nothing.
 use Prim.Native.Nat.{_≤_, _-_}
 use borrow.Author.Needs.{needs}

@@ -1,4 +1,4 @@
--- `tables::write::same` meets its contract.
+-- `test_tables::write::same` meets its contract.
 -- Assumes nothing.
 use Prim.Native.Nat.{_≤_, _-_}
 use lib.ListN.{length}

@@ -1,4 +1,4 @@
--- `tables::write::sizes` meets its contract.
+-- `test_tables::write::sizes` meets its contract.
 -- Assumes nothing.
 use Prim.Native.Nat.{_≤_, _-_}
 use borrow.Author.Needs.{needs}
