@@ -128,7 +128,7 @@ fn through(
     let treaties = programme.treaties;
     let register = register::register_of(treaties);
     let start = Progress::first(programme, standing);
-    let mut cessions = [0u64; 9];
+    let mut cessions = [0u64; register::NUMBERS];
     let passed = pass::pass(events, register, start, kept, &mut cessions);
     let refusal = passed.refusal;
     if refusal != 0 {

@@ -64,8 +64,8 @@ pub record Corners : Type 0 where
   pub charged-by-tier : map (λ (xs : List ℕ). chargesThrough xs three)
       ((1660 ∷ []) ∷ (1660 ∷ 2650 ∷ []) ∷ (1660 ∷ 2650 ∷ 2382 ∷ []) ∷ [])
       ≡ 269 ∷ 1227 ∷ 1502 ∷ []
-  -- Recoveries of the same amounts, and what they leave. After the first the layers have recovered 166, 223 and 0; after
-  -- the second 399, 871 and 549; after the third 633, 1,296 and 831.
+  -- Recoveries of the same amounts, and what they leave. After the first the layers have recovered 166, 223 and 0;
+  -- after the second 399, 871 and 549; after the third 633, 1,296 and 831.
   pub recovered-by-tier : map (λ (xs : List ℕ). recoveriesThrough xs three)
       ((1660 ∷ []) ∷ (1660 ∷ 2650 ∷ []) ∷ (1660 ∷ 2650 ∷ 2382 ∷ []) ∷ [])
       ≡ 389 ∷ 1819 ∷ 2760 ∷ []

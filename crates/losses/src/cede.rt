@@ -9,6 +9,7 @@ ghost use Rattle.treaty.specs.Treaty.{lossOf};
 ghost use Rattle.treaty.specs.Losses.{leftOfEach};
 ghost use Rattle.losses.specs.Register.{numbered};
 ghost use Rattle.losses.specs.Cede.{lossesFrom, CanCede, AfterTreaties};
+use crate::register;
 use crate::register::ByNumber;
 use treaty::Loss;
 
@@ -47,7 +48,7 @@ pub fn cede_each(
         ≡ sets (now (left .entry)) 0 (leftOfEach ts [] (lossesFrom (now (losses .entry)))))) ⌝ }
 {
     let count = losses.len() / 3;
-    let mut earlier = [0u64; 9];
+    let mut earlier = [0u64; register::NUMBERS];
     let mut gross: u64 = 0;
     let mut ceded: u64 = 0;
     let mut i: usize = 0;

@@ -8,9 +8,12 @@ use programme::contract;
 use programme::contract::Treaties;
 use treaty::Treaty;
 
+// How many numbers T a loss may have: those of treaties, 1 to 8, and 0.
+pub const NUMBERS: usize = 9;
+
 // Place T holds treaty T, and one that cedes nothing where the table has none; so place 0.
 pub struct ByNumber {
-    pub places: [Treaty; 9],
+    pub places: [Treaty; NUMBERS],
 }
 
 // A programme's treaties, with their places by number and the numbers that are lacking: place T of these holds 1 for a
@@ -18,7 +21,7 @@ pub struct ByNumber {
 pub struct Register {
     pub treaties: Treaties,
     pub numbered: ByNumber,
-    pub lacking: [u64; 9],
+    pub lacking: [u64; NUMBERS],
 }
 
 // The register of some treaties.
@@ -27,8 +30,8 @@ pub fn register_of(treaties: Treaties) -> Register
     ensures { λ r. ⌜ r ≡ registerOf treaties ⌝ }
 {
     let count = treaties.count;
-    let mut places = [contract::no_treaty(); 9];
-    let mut lacking = [1u64; 9];
+    let mut places = [contract::no_treaty(); NUMBERS];
+    let mut lacking = [1u64; NUMBERS];
     lacking[0] = 0;
     let mut i: usize = 0;
     while i < count {
@@ -50,7 +53,7 @@ pub fn lacks(lacking: &[u64], number: u64) -> u64
     requires { ⌜ length (now lacking) ≡ 9 ⌝ }
     ensures { λ r. ⌜ r ≡ lackAt (now (lacking .entry)) number ⌝ }
 {
-    if number < 9 {
+    if number < NUMBERS as u64 {
         return lacking[number as usize];
     }
     1

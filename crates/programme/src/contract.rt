@@ -10,14 +10,14 @@ pub const PLACES: usize = 8;
 // The first `count` places are used; in a valid programme every number of the others is 0.
 #[repr(C)]
 pub struct Treaties {
-    pub places: [Treaty; 8],
+    pub places: [Treaty; PLACES],
     pub count: usize,
 }
 
 // The layers of one tier; places as above.
 #[repr(C)]
 pub struct Layers {
-    pub places: [Terms; 8],
+    pub places: [Terms; PLACES],
     pub count: usize,
 }
 
@@ -70,8 +70,8 @@ impl Programme {
     pub fn empty() -> Programme
         ensures { λ r. ⌜ r ≡ programmeOf noContracts ⌝ }
     {
-        let treaties = [no_treaty(); 8];
-        let terms = [no_terms(); 8];
+        let treaties = [no_treaty(); PLACES];
+        let terms = [no_terms(); PLACES];
         Programme {
             treaties: Treaties {
                 places: treaties,

@@ -18,7 +18,7 @@ use treaty::Treaty;
 pub const NOT_A_PROGRAMME: u64 = 6;
 
 // Whether each treaty is in range and its number above the one before.
-fn treaties_pass(places: [Treaty; 8], count: usize) -> bool
+fn treaties_pass(places: [Treaty; PLACES], count: usize) -> bool
     requires { ⌜ count ≤ 8 ⌝ }
     ensures { λ r. ⌜ r ≡ chained treatyPasses treatyNumber 0 (take count places) ⌝ }
 {
@@ -39,7 +39,7 @@ fn treaties_pass(places: [Treaty; 8], count: usize) -> bool
 }
 
 // Whether the places from one on hold nothing but 0.
-fn treaties_unused(places: [Treaty; 8], from: usize) -> bool
+fn treaties_unused(places: [Treaty; PLACES], from: usize) -> bool
     requires { ⌜ from ≤ 8 ⌝ }
     ensures { λ r. ⌜ r ≡ every treatyUnused (drop from places) ⌝ }
 {
@@ -70,7 +70,7 @@ fn treaties(t: Treaties) -> bool
 }
 
 // Whether each layer is in range and attaches at or above the end of the band before.
-fn layers_pass(places: [Terms; 8], count: usize) -> bool
+fn layers_pass(places: [Terms; PLACES], count: usize) -> bool
     requires { ⌜ count ≤ 8 ⌝ }
     ensures { λ r. ⌜ r ≡ chained layerPasses bandEnd 0 (take count places) ⌝ }
 {
@@ -91,7 +91,7 @@ fn layers_pass(places: [Terms; 8], count: usize) -> bool
 }
 
 // The same of a tier's places.
-fn layers_unused(places: [Terms; 8], from: usize) -> bool
+fn layers_unused(places: [Terms; PLACES], from: usize) -> bool
     requires { ⌜ from ≤ 8 ⌝ }
     ensures { λ r. ⌜ r ≡ every termsUnused (drop from places) ⌝ }
 {

@@ -5,6 +5,7 @@ ghost use Rattle.programme.specs.Contracts.{contractsIn};
 ghost use Rattle.programme.specs.Valid.{valid};
 ghost use Rattle.year.specs.Standing.{fresh, standingPasses, openOf};
 use events::rule;
+use programme::contract::PLACES;
 use programme::contract::Programme;
 use programme::valid;
 use year::Opening;
@@ -21,8 +22,8 @@ pub fn fresh() -> Standing
     ensures { λ r. ⌜ r ≡ fresh ⌝ }
 {
     Standing {
-        risk: [0; 8],
-        cat: [0; 8],
+        risk: [0; PLACES],
+        cat: [0; PLACES],
         day: 0,
     }
 }

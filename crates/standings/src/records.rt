@@ -10,9 +10,10 @@ use layer::record::Layer;
 use layer::tier::Tier;
 use programme::contract;
 use programme::contract::Layers;
+use programme::contract::PLACES;
 
 // The records of a tier's layers with the spent amounts of a standing's places.
-pub fn tier_with(layers: Layers, spent: [u64; 8]) -> Tier
+pub fn tier_with(layers: Layers, spent: [u64; PLACES]) -> Tier
     requires { ⌜ layers .count ≤ 8 ⌝ }
     ensures { λ r. ⌜ (layersOf r ≡ layersWith (layersIn layers) spent) × (r .count ≡ layers .count) ⌝ }
 {
@@ -21,7 +22,7 @@ pub fn tier_with(layers: Layers, spent: [u64; 8]) -> Tier
         terms: contract::no_terms(),
         spent: Whole::new(0),
     };
-    let mut records = [none; 8];
+    let mut records = [none; PLACES];
     let mut i: usize = 0;
     while i < count {
         let terms = layers.places[i];
@@ -39,12 +40,12 @@ pub fn tier_with(layers: Layers, spent: [u64; 8]) -> Tier
 }
 
 // The spent amounts of a tier's layers, in eight places.
-pub fn spent_of(tier: Tier) -> [u64; 8]
+pub fn spent_of(tier: Tier) -> [u64; PLACES]
     requires { ⌜ tier .count ≤ 8 ⌝ }
     ensures { λ r. ⌜ r ≡ inPlaces 0 (spentOf (layersOf tier)) ⌝ }
 {
     let count = tier.count;
-    let mut spent = [0u64; 8];
+    let mut spent = [0u64; PLACES];
     let mut i: usize = 0;
     while i < count {
         let layer = tier.layers[i];

@@ -12,7 +12,7 @@ use programme::contract::Layers;
 use programme::contract::PLACES;
 
 // Whether no layer's spent amount is above its cap.
-fn within_caps(layers: Layers, spent: [u64; 8]) -> bool
+fn within_caps(layers: Layers, spent: [u64; PLACES]) -> bool
     requires { ⌜ validLayers layers ≡ true ⌝ }
     ensures { λ r. ⌜ r ≡ every withinCap (layersWith (layersIn layers) spent) ⌝ }
 {
@@ -29,7 +29,7 @@ fn within_caps(layers: Layers, spent: [u64; 8]) -> bool
 }
 
 // Whether the places from one on hold 0.
-fn zeros(spent: [u64; 8], from: usize) -> bool
+fn zeros(spent: [u64; PLACES], from: usize) -> bool
     requires { ⌜ from ≤ 8 ⌝ }
     ensures { λ r. ⌜ r ≡ every (λ (m : ℕ). eqb m 0) (drop from spent) ⌝ }
 {
@@ -44,7 +44,7 @@ fn zeros(spent: [u64; 8], from: usize) -> bool
 }
 
 // Whether the spent amounts of one tier may be run on.
-pub fn tier_passes(layers: Layers, spent: [u64; 8]) -> bool
+pub fn tier_passes(layers: Layers, spent: [u64; PLACES]) -> bool
     requires { ⌜ validLayers layers ≡ true ⌝ }
     ensures { λ r. ⌜ r ≡ spentPasses (layersIn layers) spent ⌝ }
 {

@@ -2,6 +2,7 @@
 // another, are its row.
 ghost use mathlib.Core.Path.{_≡_};
 ghost use Rattle.statement.specs.LineKinds.{widthOf};
+use programme::contract::PLACES;
 
 pub enum Kind {
     Event,
@@ -20,7 +21,7 @@ pub const LAYER: usize = 5;
 // Six amounts.
 pub const TOTAL: usize = 6;
 // The most that all lines after the events' have: those of eight treaties, of eight layers a tier and of the totals.
-pub const REST: usize = 8 * TREATY + 16 * LAYER + TOTAL;
+pub const REST: usize = PLACES * TREATY + 2 * PLACES * LAYER + TOTAL;
 
 // How many numbers a line has.
 pub fn width(kind: Kind) -> usize

@@ -12,6 +12,7 @@ use layer::terms::Terms;
 use programme::contract;
 use programme::contract::Contract;
 use programme::contract::Layers;
+use programme::contract::PLACES;
 use programme::contract::Programme;
 use programme::contract::Treaties;
 use programme::rule::Before;
@@ -45,7 +46,12 @@ fn refused(refusal: u64, line: u64) -> Reading
 }
 
 // A success, from the places and how many of each are used.
-fn accepted(treaties: [Treaty; 8], risk: [Terms; 8], cat: [Terms; 8], counts: Before) -> Reading
+fn accepted(
+    treaties: [Treaty; PLACES],
+    risk: [Terms; PLACES],
+    cat: [Terms; PLACES],
+    counts: Before,
+) -> Reading
     ensures { λ r. ⌜ r ≡ readPlaces treaties risk cat counts ⌝ }
 {
     let programme = Programme {
@@ -73,9 +79,9 @@ fn accepted(treaties: [Treaty; 8], risk: [Terms; 8], cat: [Terms; 8], counts: Be
 fn read_lines(text: &[u8]) -> Reading
     ensures { λ r. ⌜ r ≡ readFrom 1 noContracts (formsOf (now (text .entry))) ⌝ }
 {
-    let mut treaties = [contract::no_treaty(); 8];
-    let mut risk = [contract::no_terms(); 8];
-    let mut cat = [contract::no_terms(); 8];
+    let mut treaties = [contract::no_treaty(); PLACES];
+    let mut risk = [contract::no_terms(); PLACES];
+    let mut cat = [contract::no_terms(); PLACES];
     let mut before = Before::first();
     let mut number: u64 = 0;
     let mut at = 0;

@@ -1,10 +1,11 @@
 // The year: standings and amounts. What a run, a ledger and a history are stands in the definitions.
+use programme::contract::PLACES;
 
 // Each layer's spent amount, in eight places for each tier, and the last day run.
 #[repr(C)]
 pub struct Standing {
-    pub risk: [u64; 8],
-    pub cat: [u64; 8],
+    pub risk: [u64; PLACES],
+    pub cat: [u64; PLACES],
     pub day: u64,
 }
 
