@@ -13,7 +13,7 @@ pub data Outcome (A : Type 0) : Type 0 where
   refused : (refusal number : ℕ) → Outcome A
   written : (text : List ℕ) (left : A) → Outcome A
 
--- what is left besides the text by a call that leaves nothing besides
+-- for a call that leaves nothing besides its text
 pub data TextOnly : Type 0 where
   textOnly : TextOnly
 

@@ -34,17 +34,11 @@ use Rattle.year.specs.Run.{runFrom, runOf, standingAfter}
 use Rattle.client.specs.declared.After.{After}
 use Rattle.client.specs.After.{afterOf}
 use Rattle.client.specs.Sidney.{noProgramme, zeros, tableText, eventsText, statement, sidney, unusedPlace}
-use Rattle.client.specs.Sidney.{afterwards}
+use Rattle.client.specs.Sidney.{afterwards, overTheWhole}
 
 -- the all-zero standing
 abbrev none : Standing
 none = record { risk = zeros; cat = zeros; day = 0 }
-
--- a share over the whole in the second line
-abbrev overTheWhole : List ℕ
-overTheWhole =
-    bytes "(risk (band 1 1) (deduct 0) (back 0 0 0) (placed 10000))\n"
-    ++ bytes "(cat (band 1 1) (deduct 0) (back 0 0 0) (placed 10001))\n"
 
 record Computed : Type 0 where
   pub read : readOf tableText ≡ record { refusal = 0; line = 0; programme = sidney }

@@ -1,4 +1,4 @@
--- Document 01, H1: its texts, its programme and its standing, typed out.
+-- Document 01, H1: its texts, its programme and its standing, typed out; and what is turned down.
 -- Assumes nothing.
 use mathlib.Core.List.{List, [], _∷_, _++_}
 use Prim.Native.Nat.{ℕ}
@@ -28,6 +28,12 @@ statement =
     ++ bytes "(layer cat 2 (deductible 0) (cover 150000000) (recovered 120000000) (premium 30000000))\n"
     ++ bytes "(layer cat 3 (deductible 0) (cover 200000000) (recovered 72000000) (premium 14400000))\n"
     ++ bytes "(total (gross 350000000) (ceded 0) (risk 0) (cat 192000000) (net 158000000) (premium 44400000))\n"
+
+-- another table text, with a share over the whole in the second line
+abbrev pub overTheWhole : List ℕ
+overTheWhole =
+    bytes "(risk (band 1 1) (deduct 0) (back 0 0 0) (placed 10000))\n"
+    ++ bytes "(cat (band 1 1) (deduct 0) (back 0 0 0) (placed 10001))\n"
 
 -- an unused place holds 0 in each number
 abbrev noTreaty : Treaty

@@ -8,7 +8,7 @@ ghost use Rattle.answer.specs.Outcome.{bufferAfter};
 ghost use Rattle.year.specs.Run.{runOf};
 ghost use Rattle.client.specs.After.{afterOf};
 ghost use Rattle.client.specs.Sidney.{noProgramme, zeros, tableText, eventsText, statement, sidney, unusedPlace};
-ghost use Rattle.client.specs.Sidney.{afterwards};
+ghost use Rattle.client.specs.Sidney.{afterwards, overTheWhole};
 use answer::Answer;
 use programme::contract::Programme;
 use table_text::Reading;
@@ -99,9 +99,7 @@ pub fn write_refused(programme: Programme, buffer: &mut [u8]) -> Answer
 
 // A share over the whole in the second line: 3, the line, and the programme without contracts.
 pub fn read_refused(table: &[u8]) -> Reading
-    requires { ⌜ now table
-        ≡ bytes "(risk (band 1 1) (deduct 0) (back 0 0 0) (placed 10000))\n"
-        ++ bytes "(cat (band 1 1) (deduct 0) (back 0 0 0) (placed 10001))\n" ⌝ }
+    requires { ⌜ now table ≡ overTheWhole ⌝ }
     ensures { λ r. ⌜ r ≡ record { refusal = 3; line = 2; programme = noProgramme } ⌝ }
 {
     cession::cession_read(table)

@@ -11,9 +11,12 @@ use crate::amount::Placed;
 use crate::record::Layer;
 use crate::record::Sums;
 
-// At most eight layers, in the first places; the places past the count are unused.
+// The places for the layers of a tier.
+pub const PLACES: usize = 8;
+
+// The layers of a tier, in the first places; the places past the count are unused.
 pub struct Tier {
-    pub layers: [Layer; 8],
+    pub layers: [Layer; PLACES],
     pub count: usize,
 }
 
@@ -41,7 +44,7 @@ fn bear_all(layers: &mut [Layer], subjects: &[u64], mut sums: Sums) -> Sums
 }
 
 // The same for the tier of eight places by value, of which the first `count` are lent here; the others stay.
-fn bear_first(layers: [Layer; 8], count: usize, subjects: &[u64], sums: Sums) -> TierBorne
+fn bear_first(layers: [Layer; PLACES], count: usize, subjects: &[u64], sums: Sums) -> TierBorne
     requires { ⌜ (count ≤ 8) × SoundLayers (take count layers) × AmpleForTier sums ⌝ }
     ensures { λ r. ⌜ (r .tier ≡ tierAfter (now (subjects .entry)) (record { layers = layers; count = count }))
         × (r .sums ≡ sumsThrough (now (subjects .entry)) sums (take count layers)) ⌝ }

@@ -2,10 +2,11 @@
 ghost use mathlib.Core.Path.{_≡_};
 ghost use Rattle.programme.specs.Contracts.{noTreaty, noTerms, noContracts, programmeOf};
 use layer::terms::Terms;
+use layer::tier;
 use treaty::Treaty;
 
 // The places for treaties, and for the layers of each tier.
-pub const PLACES: usize = 8;
+pub const PLACES: usize = tier::PLACES;
 
 // The first `count` places are used; in a valid programme every number of the others is 0.
 #[repr(C)]
