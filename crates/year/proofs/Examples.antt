@@ -28,13 +28,16 @@ use Rattle.events.specs.Event.{closes, lossesUpTo, eventOf, statedIn}
 use Rattle.events.specs.Rules.{lossOutside, eventOutside, lacking, eventFault}
 use Rattle.events.specs.Read.{eventsOf, readFrom as eventsFrom}
 use Rattle.year.specs.declared.Standing.{Standing}
+use Rattle.year.specs.Tiers.{TierName, risk, cat}
 use Rattle.year.specs.Event.{subjectOf}
 use Rattle.year.specs.Statement.{statementText}
 use Rattle.year.specs.Standing.{fresh, standingPasses}
 use Rattle.year.specs.Run.{runFrom, runOf}
 use Rattle.year.specs.Ledger.{Entry, recoveryAdded}
 use Rattle.year.specs.History.{Call, Reply, repliesIn, standingOfHistory, statementsOf, ledgerOfHistory, endsOn}
-use Rattle.year.specs.History.{repliesAfter, spentIn, recoveriesIn, summed, eventsOfHistory, grossIn, cededByAll}
+use Rattle.year.specs.History.{repliesAfter, spentIn, lastShown, recoveriesIn, recoveredIn, recoveriesOfTier}
+use Rattle.year.specs.History.{summed, eventsOfHistory, grossIn, cededByAll}
+use Rattle.year.proofs.Parts.{lineByLine}
 
 -- a quota share with an event limit, a surplus, two risk layers and two catastrophe layers
 abbrev table : List ℕ
@@ -160,6 +163,22 @@ pub record Examples : Type 0 where
   pub gross : grossIn (eventsOfHistory programme history) ≡ 31305
   pub ceded : cededByAll (contractsIn programme .treaties) (eventsOfHistory programme history) ≡ 11087
   pub ends : endsOn programme history ≡ 31
+  -- on day 0 without an event: no run, an empty text, a refused one
+  pub ends-on-0 : map (endsOn programme) ([] ∷ (call "" ∷ []) ∷ (call "(event 367)\n" ∷ []) ∷ []) ≡ 0 ∷ 0 ∷ 0 ∷ []
+  -- what each layer has recovered: by its line in the last statement, by the ledger's sums, from its spent amount
+  pub shown-risk : lastShown risk (0 ∷ 0 ∷ []) (statementsOf programme history) ≡ 1333 ∷ 3599 ∷ []
+  pub shown-cat : lastShown cat (0 ∷ 0 ∷ []) (statementsOf programme history) ≡ 2854 ∷ 2499 ∷ []
+  pub shown-without : lastShown cat (0 ∷ 0 ∷ []) (statementsOf programme []) ≡ 0 ∷ 0 ∷ []
+  pub recoveries-risk : recoveriesIn (ledgerOfHistory programme history .risk) ≡ 1333 ∷ 3599 ∷ []
+  pub recovered-risk : recoveredIn (ledgerOfHistory programme history .risk) ≡ 1333 ∷ 3599 ∷ []
+  -- what each tier has recovered
+  pub tiers : map (λ (n : TierName). recoveriesOfTier n (summed (statementsOf programme history))) (risk ∷ cat ∷ [])
+      ≡ 4932 ∷ 5353 ∷ []
+  -- the treaties' lines of both statements, added line by line
+  pub treaties-added :
+      lineByLine (record { number = 1; ceded = 8400 } ∷ record { number = 3; ceded = 1020 } ∷ [])
+      (record { number = 1; ceded = 0 } ∷ record { number = 3; ceded = 1667 } ∷ [])
+      ≡ record { number = 1; ceded = 8400 } ∷ record { number = 3; ceded = 2687 } ∷ []
   -- an empty text keeps the last day
   pub kept : standingOfHistory programme (first ∷ call "" ∷ [])
       ≡ standing (3380 ∷ 2700 ∷ []) (3367 ∷ 2500 ∷ []) 20
@@ -195,6 +214,14 @@ examples = record {
   gross = refl;
   ceded = refl;
   ends = refl;
+  ends-on-0 = refl;
+  shown-risk = refl;
+  shown-cat = refl;
+  shown-without = refl;
+  recoveries-risk = refl;
+  recovered-risk = refl;
+  tiers = refl;
+  treaties-added = refl;
   kept = refl;
   same = refl;
   same-too = refl;
