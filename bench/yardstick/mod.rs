@@ -67,10 +67,10 @@ impl Run<'_> {
     /// the event: one loss's recovery is the figure after it less the figure before it, so the differences add up.
     fn event(&mut self, text: &mut Reader) -> Amounts {
         let mut amounts = Amounts::default();
-        let mut earlier = [0; NUMBERS];
+        let mut taken = [0; NUMBERS];
         while let Some(loss) = text.loss() {
-            let ceded = self.programme.treaties[loss.treaty].ceded(&loss, earlier[loss.treaty]);
-            earlier[loss.treaty] += loss.amount;
+            let ceded = self.programme.treaties[loss.treaty].ceded(&loss, taken[loss.treaty]);
+            taken[loss.treaty] += ceded;
             self.ceded[loss.treaty] += ceded;
             amounts.gross += loss.amount;
             amounts.ceded += ceded;

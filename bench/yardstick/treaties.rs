@@ -45,16 +45,17 @@ impl Treaty {
         matches!(self.terms, Terms::None)
     }
 
-    /// What is ceded of a loss when losses of `earlier` in all came before it in the event.
-    pub fn ceded(&self, loss: &Loss, earlier: u64) -> u64 {
-        let covered = loss.amount.min(self.limit.saturating_sub(earlier));
-        match self.terms {
+    /// What is ceded of a loss when the treaty took so much of earlier ones in the event.
+    pub fn ceded(&self, loss: &Loss, taken: u64) -> u64 {
+        let Loss { amount, maximum, .. } = *loss;
+        let unlimited = match self.terms {
             Terms::None => 0,
-            Terms::Quota { cede, capacity, .. } if loss.maximum <= capacity => covered * cede / WHOLE,
-            Terms::Quota { share, .. } => part(covered, share, WHOLE * loss.maximum),
-            Terms::Surplus { retention, .. } if loss.maximum <= retention => 0,
-            Terms::Surplus { most, end, .. } if loss.maximum > end => part(covered, most, loss.maximum),
-            Terms::Surplus { retention, .. } => part(covered, loss.maximum - retention, loss.maximum),
-        }
+            Terms::Quota { cede, capacity, .. } if maximum <= capacity => amount * cede / WHOLE,
+            Terms::Quota { share, .. } => part(amount, share, WHOLE * maximum),
+            Terms::Surplus { retention, .. } if maximum <= retention => 0,
+            Terms::Surplus { most, end, .. } if maximum > end => part(amount, most, maximum),
+            Terms::Surplus { retention, .. } => part(amount, maximum - retention, maximum),
+        };
+        unlimited.min(self.limit.saturating_sub(taken))
     }
 }

@@ -1,5 +1,5 @@
-//! The checked figures of document 01, typed from the paper, put to the second calculation. Says what is wrong and
-//! ends with status 1 when a figure differs.
+//! The checked figures of document 01, C4 as document 02 has it, typed from the papers, put to the second calculation.
+//! Says what is wrong and ends with status 1 when a figure differs.
 
 mod calculation;
 mod printed;
@@ -66,6 +66,12 @@ fn ceded(table: &str, losses: &[(u64, u64)]) -> Vec<u64> {
     column(&program(table, &events), "(event", "ceded")
 }
 
+/// What a treaty cedes of losses of one event, in turn: what it cedes of the first so many, less of those before.
+fn ceded_in_turn(table: &str, losses: &[(u64, u64)]) -> Vec<u64> {
+    let of_first = |count: usize| column(&program(table, &event(1, &losses[..count])), "(treaty 1", "ceded")[0];
+    (1..=losses.len()).map(|count| of_first(count) - of_first(count - 1)).collect()
+}
+
 /// The year's figure after each subject amount in turn, as the recoveries or premiums of one risk layer.
 fn from_layer(table: &str, subjects: &[u64], name: &str) -> Vec<u64> {
     let events: String = subjects.iter().map(|subject| event(0, &[(1, *subject)])).collect();
@@ -78,13 +84,15 @@ fn treaties(checks: &mut Checks) {
     let capacity = "(quota 1 (cede 4000) (capacity 20000) (event 0))\n";
     checks.equal("C2", ceded(capacity, &[(25_000, 10_000)]), vec![3_200]);
     checks.equal("C3", ceded(capacity, &[(20_000, 10_000)]), vec![4_000]);
-    let limited = "(quota 1 (cede 4000) (capacity 0) (event 15000))\n";
-    let loss = (10_000, 10_000);
-    for (count, total) in [(1, 4_000), (2, 6_000), (3, 6_000)] {
-        let statement = program(limited, &event(1, &vec![loss; count]));
-        checks.equal("C4", column(&statement, "(treaty 1", "ceded"), vec![total]);
-    }
-    checks.equal("a new event begins again at 0", ceded(limited, &[loss, loss]), vec![4_000, 4_000]);
+    let (loss, small) = ((10_000, 10_000), (10_000, 1_000));
+    let limited = |limit: u64| format!("(quota 1 (cede 4000) (capacity 0) (event {limit}))\n");
+    checks.equal("C4", ceded_in_turn(&limited(15_000), &[loss; 3]), vec![4_000, 4_000, 4_000]);
+    checks.equal("C4 with limit 5,000", ceded_in_turn(&limited(5_000), &[loss; 3]), vec![4_000, 1_000, 0]);
+    checks.equal("quota", ceded_in_turn(&limited(5_000), &[loss, small, loss]), vec![4_000, 400, 600]);
+    checks.equal("events apart", ceded(&limited(5_000), &[loss, loss]), vec![4_000, 4_000]);
+    let most = "(surplus 1 (retain 10000) (lines 3) (event 5000))\n";
+    let losses = [(40_000, 8_000), (40_000, 2_000), (40_000, 8_000)];
+    checks.equal("surplus", ceded_in_turn(most, &losses), vec![5_000, 0, 0]);
     let surplus = "(surplus 1 (retain 10000) (lines 3) (event 0))\n";
     let losses = [(10_000, 10_000), (10_001, 10_001), (40_000, 8_000), (50_000, 8_000)];
     checks.equal("C5 to C8", ceded(surplus, &losses), vec![0, 1, 6_000, 4_800]);

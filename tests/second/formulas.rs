@@ -4,8 +4,8 @@ use super::events::Loss;
 use super::table::{Layer, Terms, Treaty, WHOLE};
 
 impl Treaty {
-    /// The share of a covered loss that is ceded, as a fraction: numerator and denominator.
-    fn ceded_share(&self, maximum: u64) -> (u64, u64) {
+    /// The share of a loss that is offered to the treaty, as a fraction: numerator and denominator.
+    fn offered_share(&self, maximum: u64) -> (u64, u64) {
         match self.terms {
             Terms::Quota { cede, capacity } if capacity == 0 || maximum <= capacity => (cede, WHOLE),
             Terms::Quota { cede, capacity } => (cede * capacity, WHOLE * maximum),
@@ -15,14 +15,18 @@ impl Treaty {
         }
     }
 
-    /// What is ceded of a loss when losses of `earlier` in all came before it in the event.
-    pub fn ceded(&self, loss: &Loss, earlier: u64) -> u64 {
-        let covered = match self.event_limit {
-            0 => loss.amount,
-            limit => loss.amount.min(limit.saturating_sub(earlier)),
-        };
-        let (share, whole) = self.ceded_share(loss.maximum);
-        (u128::from(covered) * u128::from(share) / u128::from(whole)) as u64
+    /// What would be ceded of a loss if there were no event limit.
+    pub fn offered(&self, loss: &Loss) -> u64 {
+        let (share, whole) = self.offered_share(loss.maximum);
+        (u128::from(loss.amount) * u128::from(share) / u128::from(whole)) as u64
+    }
+
+    /// What the treaty takes where so much is offered to it in one event.
+    pub fn taken(&self, offered: u64) -> u64 {
+        match self.event_limit {
+            0 => offered,
+            limit => offered.min(limit),
+        }
     }
 }
 

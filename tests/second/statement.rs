@@ -46,13 +46,15 @@ impl<'a> Run<'a> {
 
     fn event(&mut self, losses: &[Loss]) -> Amounts {
         let mut amounts = Amounts::default();
-        let mut earlier = [0; MOST_TREATIES as usize];
+        let mut offered = [0; MOST_TREATIES as usize];
         let mut subject = 0;
         for loss in losses {
             let mut left = loss.amount;
             if let Some(place) = self.programme.treaty(loss.treaty) {
-                let ceded = self.programme.treaties[place].ceded(loss, earlier[place]);
-                earlier[place] += loss.amount;
+                let treaty = &self.programme.treaties[place];
+                let before = treaty.taken(offered[place]);
+                offered[place] += treaty.offered(loss);
+                let ceded = treaty.taken(offered[place]) - before;
                 self.ceded[place] += ceded;
                 amounts.ceded += ceded;
                 left -= ceded;

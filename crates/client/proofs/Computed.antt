@@ -9,7 +9,7 @@ use Rattle.text.specs.Bytes.{bytes}
 use Rattle.text.specs.Number.{printedBy, printed, digitOf, readOn, number}
 use Rattle.text.specs.Template.{capital, filled, matched, wholeOf, lineNumbers}
 use Rattle.text.specs.Lines.{linesOf}
-use Rattle.treaty.specs.Treaty.{coveredPart, cededByQuota, cededBySurplus, cededOf, cededOfLoss}
+use Rattle.treaty.specs.Treaty.{cededByQuota, cededBySurplus, cededOf, cutToLimit, cededOfLoss}
 use Rattle.treaty.specs.Losses.{cededIn}
 use Rattle.layer.specs.Layer.{placedOf, recoveredOf, premiumOf, recoveryOf, chargeOf}
 use Rattle.answer.specs.declared.Answer.{Answer}
@@ -56,7 +56,7 @@ record Computed : Type 0 where
 computed : Computed
 unfolding
     rounded printedBy printed digitOf readOn number capital filled matched wholeOf lineNumbers linesOf
-    coveredPart cededByQuota cededBySurplus cededOf cededOfLoss placedOf recoveredOf premiumOf recoveryOf
+    cededByQuota cededBySurplus cededOf cutToLimit cededOfLoss placedOf recoveredOf premiumOf recoveryOf
     chargeOf kindOf formOfKind formOf treatyLine outside treatyOutside termsOutside treatyNotZero termsNotZero
     treatyFault layerFault readFrom readOf validTreaties validLayers valid closes lossesUpTo eventOf lossOutside
     eventOutside lacking eventFault eventsOf eventsFrom cededIn subjectOf statementText openOf standingPasses fitted

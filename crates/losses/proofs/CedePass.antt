@@ -28,7 +28,7 @@ use Rattle.losses.specs.Cede.{lossesFrom, cededAdded, AfterTreaties, Can
 use Rattle.losses.proofs.Stores.{each-sum, at-most, sum-at}
 use Rattle.losses.proofs.Numbers.{at-number}
 use Rattle.losses.proofs.Triples.{losses-count}
-use Rattle.losses.proofs.Earlier.{amountAt, earlierAt, ceded-with}
+use Rattle.losses.proofs.Taken.{takenAt, ceded-with, taken-after}
 
 -- Of the losses xs those of `before` went through the treaties ts, and those of `after` are ahead. The amounts come to
 -- g and what is ceded to c. The places for what is left were l₀ and are l, with i of them used; the amounts by number
@@ -68,8 +68,8 @@ module _ (ts : List Treaty) (xs : List Loss) (l₀ cs₀ : List ℕ) where
     h .left,
   )
 
--- The same of the first i of k losses, for whichever treaties the places ps hold, with what keeps the sums small. U by
--- number is `us`.
+-- The same of the first i of k losses, for whichever treaties the places ps hold, with what keeps the sums small. What
+-- each treaty took is in `us`, by number.
 pub record Ceding (ps : List Treaty) (xs : List Loss) (k : ℕ) (l₀ cs₀ l cs us : List ℕ) (g c i : ℕ) : Type 0 where
   pub count : k ≡ length xs
   pub within : i ≤ k
@@ -80,12 +80,12 @@ pub record Ceding (ps : List Treaty) (xs : List Loss) (k : ℕ) (l₀ cs₀ l cs
   pub room : k ≤ length l
   pub same-left : length l ≡ length l₀
   pub same-sums : length cs ≡ length cs₀
-  pub nine-earlier : length us ≡ 9
+  pub nine-taken : length us ≡ 9
   pub gross-le : g ≤ i * 10 ^ 13
   pub ceded-le : c ≤ g
   pub sums-le : Each (λ (n : ℕ). n ≤ 2 ^ 62 + i * 10 ^ 13) cs
-  pub earlier-le : Each (λ (n : ℕ). n ≤ i * 10 ^ 13) us
-  pub earlier : (n : ℕ) → n ≤ 8 → getD us n 0 ≡ earlierAt n (take i xs)
+  pub taken-le : Each (λ (n : ℕ). n ≤ i * 10 ^ 13) us
+  pub taken : (ts : List Treaty) → ps ≡ numbered ts → (n : ℕ) → n ≤ 8 → getD us n 0 ≡ takenAt ts n (take i xs)
   pub columns : (ts : List Treaty) → ps ≡ numbered ts → Columns ts xs l₀ cs₀ (take i xs) (drop i xs) i g c l cs
 
 -- before the first loss
@@ -102,12 +102,12 @@ module _ (table : ByNumber) (ns l cs : List ℕ) (nine : length (table .places) 
     room = omega (arith, losses-count ns);
     same-left = refl;
     same-sums = refl;
-    nine-earlier = refl;
+    nine-taken = refl;
     gross-le = omega arith;
     ceded-le = omega arith;
     sums-le = can .amounts;
-    earlier-le = each-of (λ (n : ℕ). 0 ≤ 0) (λ n. zero-le) eachNumber;
-    earlier = at-number (λ n. 0) 0;
+    taken-le = each-of (λ (n : ℕ). 0 ≤ 0) (λ n. zero-le) eachNumber;
+    taken = λ ts e. at-number (λ n. 0) 0;
     columns = λ ts e. no-column ts (lossesFrom ns) l cs;
   }
 
@@ -135,14 +135,14 @@ module _ {ps : List Treaty} {xs : List Loss} {k : ℕ} {l₀ cs₀ l cs us : Lis
     next-cedable = record {
       terms = terms-in-range;
       loss = loss-in-range;
-      earlier = omega (arith, h .few, at-most _ us (h .earlier-le) (x .treaty));
+      taken-below = omega (arith, h .few, at-most _ us (h .taken-le) (x .treaty));
     }
 
     -- what is ceded of it by the treaty in its place is what the table cedes
     ceded-is : (ts : List Treaty) → ps ≡ numbered ts → cededOfLoss treaty u x ≡ cededIn ts (take i xs) x
     ceded-is ts e =
         let n = loss-in-range .treaty in
-        rw (e, at-number (withNumber ts) noTreaty (x .treaty) n, h .earlier (x .treaty) n)
+        rw (e, at-number (withNumber ts) noTreaty (x .treaty) n, h .taken ts e (x .treaty) n)
         (sym (ceded-with ts (take i xs) x))
 
     one-taken : take (suc i) xs ≡ take i xs ++ (x ∷ [])
@@ -154,10 +154,11 @@ module _ {ps : List Treaty} {xs : List Loss} {k : ℕ} {l₀ cs₀ l cs us : Lis
     ceded-le-gross : cededOfLoss treaty u x ≤ x .amount
     ceded-le-gross = ceded-le-amount treaty u x (terms-in-range .cede)
 
-    one-earlier : (n : ℕ) → n ≤ 8 → getD (set us (x .treaty) (u + x .amount)) n 0 ≡ earlierAt n (take (suc i) xs)
-    one-earlier n high =
-        let now = sum-at us (x .treaty) (x .amount) n (omega (arith, h .nine-earlier)) in
-        rw one-taken (omega (arith, now, h .earlier n high, sum-append (amountAt n) (take i xs) (x ∷ [])))
+    taken-is : (ts : List Treaty) → ps ≡ numbered ts → (n : ℕ) → n ≤ 8
+        → getD (set us (x .treaty) (u + cededOfLoss treaty u x)) n 0 ≡ takenAt ts n (take (suc i) xs)
+    taken-is ts e n high =
+        let now = sum-at us (x .treaty) (cededOfLoss treaty u x) n (omega (arith, h .nine-taken)) in
+        rw (one-taken, taken-after n (take i xs) x ts, sym (h .taken ts e n high), sym (ceded-is ts e)) now
 
     pub gross-fits : Fits w64 (g + x .amount)
     gross-fits = omega (arith, h .few, h .gross-le, loss-in-range .amount)
@@ -173,7 +174,7 @@ module _ {ps : List Treaty} {xs : List Loss} {k : ℕ} {l₀ cs₀ l cs us : Lis
       sum-fits = omega (arith, h .few, at-most _ cs (h .sums-le) (x .treaty), ceded-is-le)
 
       pub one-ceded : Ceding ps xs k l₀ cs₀ (set l i (d .left))
-          (set cs (x .treaty) (getD cs (x .treaty) 0 + d .ceded)) (set us (x .treaty) (d .total))
+          (set cs (x .treaty) (getD cs (x .treaty) 0 + d .ceded)) (set us (x .treaty) (d .taken))
           (g + x .amount) (c + d .ceded) (i + 1)
       one-ceded = rw (does, add-one i) record {
         count = h .count;
@@ -185,12 +186,12 @@ module _ {ps : List Treaty} {xs : List Loss} {k : ℕ} {l₀ cs₀ l cs us : Lis
         room = omega (arith, h .room, length-set l i (x .amount - cededOfLoss treaty u x));
         same-left = length-set l i _ ∙ h .same-left;
         same-sums = length-set cs (x .treaty) _ ∙ h .same-sums;
-        nine-earlier = length-set us (x .treaty) _ ∙ h .nine-earlier;
+        nine-taken = length-set us (x .treaty) _ ∙ h .nine-taken;
         gross-le = omega (arith, h .gross-le, loss-in-range .amount);
         ceded-le = omega (arith, h .ceded-le, ceded-le-gross);
         sums-le = each-sum _ _ cs (h .sums-le) (x .treaty) _ (omega (arith, loss-in-range .amount, ceded-le-gross));
-        earlier-le = each-sum _ _ us (h .earlier-le) (x .treaty) _ (omega (arith, loss-in-range .amount));
-        earlier = one-earlier;
+        taken-le = each-sum _ _ us (h .taken-le) (x .treaty) _ (omega (arith, loss-in-range .amount, ceded-le-gross));
+        taken = taken-is;
         columns = λ ts e. rw one-taken
             (one-column ts xs l₀ cs₀ (take i xs) x (drop (suc i) xs) i g c l cs (rw one-dropped at (h .columns ts e))
             (cededOfLoss treaty u x) (ceded-is ts e));

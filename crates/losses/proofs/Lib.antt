@@ -2,7 +2,7 @@ pub mod Stores
 pub mod Numbers
 pub mod Storing
 pub mod Triples
-pub mod Earlier
+pub mod Taken
 pub mod Added
 pub mod CedePass
 pub mod Lacks

@@ -1,5 +1,5 @@
--- Document 01, Proportional treaties: "Within one event and one treaty, let U be the sum of the earlier g."; "What is
--- left of g goes to the risk layers." What a pass over an event's losses leaves in lent places.
+-- Document 01, Proportional treaties: "What is left of g goes to the risk layers." What a pass over an event's losses
+-- leaves in lent places.
 -- Assumes nothing.
 use mathlib.Core.Path.{_≡_}
 use mathlib.Core.List.{List, [], _∷_, _++_}

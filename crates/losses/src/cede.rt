@@ -48,7 +48,7 @@ pub fn cede_each(
         ≡ sets (now (left .entry)) 0 (leftOfEach ts [] (lossesFrom (now (losses .entry)))))) ⌝ }
 {
     let count = losses.len() / 3;
-    let mut earlier = [0u64; register::NUMBERS];
+    let mut taken = [0u64; register::NUMBERS];
     let mut gross: u64 = 0;
     let mut ceded: u64 = 0;
     let mut i: usize = 0;
@@ -56,9 +56,9 @@ pub fn cede_each(
         let loss = loss_at(losses, i);
         let number = loss.treaty as usize;
         let t = table.places[number];
-        let cession = t.cede(earlier[number], loss);
+        let cession = t.cede(taken[number], loss);
         left[i] = cession.left;
-        earlier[number] = cession.total;
+        taken[number] = cession.taken;
         cessions[number] += cession.ceded;
         gross += loss.amount;
         ceded += cession.ceded;

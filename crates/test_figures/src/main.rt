@@ -1,6 +1,7 @@
-// The checked figures of document 01, computed by the code: a line each, held to the stored output.
+// The checked figures of document 01, and those of document 02 on event limits, computed by the code: a line each,
+// held to the stored output.
 ghost use mathlib.Core.Path.{_≡_};
-ghost use Prim.Native.Nat.{_^_, _≤_, _<_};
+ghost use Prim.Native.Nat.{_+_, _^_, _≤_};
 ghost use Rattle.treaty.specs.Ranges.{TermsInRange, LossInRange};
 ghost use Rattle.layer.specs.Layer.{termsOf};
 ghost use Rattle.layer.specs.Ranges.{InRange, Sound, SoundTier};
@@ -46,7 +47,8 @@ fn quota(capacity: u64, limit: u64) -> Treaty
 }
 
 // A surplus of three lines with a retention of 10,000.
-fn surplus() -> Treaty
+fn surplus(limit: u64) -> Treaty
+    requires { ⌜ limit ≤ 10 ^ 13 ⌝ }
     ensures { λ r. ⌜ TermsInRange r ⌝ }
 {
     Treaty {
@@ -56,7 +58,7 @@ fn surplus() -> Treaty
         capacity: 0,
         retention: 10000,
         lines: 3,
-        limit: 0,
+        limit,
     }
 }
 
@@ -71,28 +73,77 @@ fn loss(maximum: u64, amount: u64) -> Loss
     }
 }
 
-// What a treaty cedes of a loss, where earlier ones of the event add up to `earlier`.
-fn cession(name: &[u8], treaty: Treaty, earlier: u64, loss: Loss)
-    requires { ⌜ TermsInRange treaty × LossInRange loss × (earlier < 2 ^ 62) ⌝ }
+// Shows what a treaty cedes of a loss after it took `taken` in the event; gives what it has then taken.
+fn cession(treaty: Treaty, taken: u64, loss: Loss) -> u64
+    requires { ⌜ TermsInRange treaty × LossInRange loss × (taken ≤ 10 ^ 15) ⌝ }
+    ensures { λ r. ⌜ r ≤ taken + 10 ^ 13 ⌝ }
 {
-    let c = treaty.cede(earlier, loss);
-    line(name, c.ceded);
+    let c = treaty.cede(taken, loss);
+    amount(c.ceded);
+    c.taken
+}
+
+// One loss of an event.
+fn alone(name: &[u8], treaty: Treaty, loss: Loss)
+    requires { ⌜ TermsInRange treaty × LossInRange loss ⌝ }
+{
+    io::write_all(STDOUT_FILENO, name);
+    cession(treaty, 0, loss);
+    end_line();
+}
+
+// Three losses of one event in turn, and what the treaty took of them.
+fn in_turn(name: &[u8], treaty: Treaty, first: Loss, second: Loss, third: Loss)
+    requires { ⌜ TermsInRange treaty × LossInRange first × LossInRange second × LossInRange third ⌝ }
+{
+    io::write_all(STDOUT_FILENO, name);
+    let one = cession(treaty, 0, first);
+    let two = cession(treaty, one, second);
+    let three = cession(treaty, two, third);
+    io::write_all(STDOUT_FILENO, b" taken");
+    amount(three);
+    end_line();
 }
 
 fn quota_figures() {
-    cession(b"C1", quota(0, 0), 0, loss(101, 101));
-    cession(b"C2", quota(20000, 0), 0, loss(25000, 10000));
-    cession(b"C3", quota(20000, 0), 0, loss(20000, 10000));
-    cession(b"C4 first", quota(0, 15000), 0, loss(10000, 10000));
-    cession(b"C4 second", quota(0, 15000), 10000, loss(10000, 10000));
-    cession(b"C4 third", quota(0, 15000), 20000, loss(10000, 10000));
+    alone(b"C1", quota(0, 0), loss(101, 101));
+    alone(b"C2", quota(20000, 0), loss(25000, 10000));
+    alone(b"C3", quota(20000, 0), loss(20000, 10000));
+    in_turn(
+        b"C4",
+        quota(0, 15000),
+        loss(10000, 10000),
+        loss(10000, 10000),
+        loss(10000, 10000),
+    );
+    in_turn(
+        b"C4 with limit 5000",
+        quota(0, 5000),
+        loss(10000, 10000),
+        loss(10000, 10000),
+        loss(10000, 10000),
+    );
+    in_turn(
+        b"quota with limit 5000",
+        quota(0, 5000),
+        loss(10000, 10000),
+        loss(10000, 1000),
+        loss(10000, 10000),
+    );
 }
 
 fn surplus_figures() {
-    cession(b"C5", surplus(), 0, loss(10000, 10000));
-    cession(b"C6", surplus(), 0, loss(10001, 10001));
-    cession(b"C7", surplus(), 0, loss(40000, 8000));
-    cession(b"C8", surplus(), 0, loss(50000, 8000));
+    alone(b"C5", surplus(0), loss(10000, 10000));
+    alone(b"C6", surplus(0), loss(10001, 10001));
+    alone(b"C7", surplus(0), loss(40000, 8000));
+    alone(b"C8", surplus(0), loss(50000, 8000));
+    in_turn(
+        b"surplus with limit 5000",
+        surplus(5000),
+        loss(40000, 8000),
+        loss(40000, 2000),
+        loss(40000, 8000),
+    );
 }
 
 // A layer with nothing spent, from the numbers of its line: (band A L) (deduct D) (back K Q P) (placed S).

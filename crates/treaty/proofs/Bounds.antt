@@ -11,13 +11,13 @@ use mir.Syntax.{w64}
 use mir.Val.{Fits}
 use Rattle.arith.specs.Ranges.{Wide}
 use Rattle.treaty.specs.declared.Treaty.{Treaty}
-use Rattle.treaty.specs.Ranges.{PartInRange}
+use Rattle.treaty.specs.Ranges.{AmountInRange}
 
-module _ (t : Treaty) (e c : ℕ) (p : PartInRange t e c) where
+module _ (t : Treaty) (e g : ℕ) (p : AmountInRange t e g) where
   pub quota-product : Fits w64 (t .cede * t .capacity)
   quota-product = omega (arith, mul-le-mul (p .terms .cede) (p .terms .capacity))
 
-  pub quota-wide : leb e (t .capacity) ≡ false → Wide c (t .cede * t .capacity) (10000 * e)
+  pub quota-wide : leb e (t .capacity) ≡ false → Wide g (t .cede * t .capacity) (10000 * e)
   quota-wide h = omega (arith, mul-le-mul (p .terms .cede) (le-of-lt (leb-false e (t .capacity) h)))
 
   pub surplus-product : Fits w64 (t .retention * (1 + t .lines))

@@ -7,15 +7,15 @@ use Rattle.arith.specs.Round.{rounded}
 use Rattle.treaty.specs.declared.Treaty.{Treaty}
 use Rattle.treaty.specs.declared.Loss.{Loss}
 use Rattle.treaty.specs.Treaty.{quotaOf, surplusOf, lossOf, cessions, cessionOf}
-use Rattle.treaty.specs.Treaty.{coveredPart, cededByQuota, cededBySurplus, cededOf, cededOfLoss}
+use Rattle.treaty.specs.Treaty.{cededByQuota, cededBySurplus, cededOf, cutToLimit, cededOfLoss}
 use Rattle.treaty.specs.Losses.{cededIn, cededOfEach}
 
 -- two treaties with event limits, and the losses of one event, in which the losses of each stand between the other's
 abbrev quotaShare : Treaty
-quotaShare = quotaOf 1 3750 0 9000
+quotaShare = quotaOf 1 3750 0 3400
 
 abbrev surplus : Treaty
-surplus = surplusOf 3 1000 4 5000
+surplus = surplusOf 3 1000 4 3900
 
 abbrev mixed : List Loss
 mixed =
@@ -34,19 +34,29 @@ pub record Corners : Type 0 where
   pub cede-none : cessions (quotaOf 1 0 0 0) (lossOf 1 1 777 ∷ []) ≡ 0 ∷ []
   -- event limit 0 is none
   pub limit-none : cessions (quotaOf 1 4000 0 0) (lossOf 1 1 30000 ∷ lossOf 1 1 10001 ∷ []) ≡ 12000 ∷ 4000 ∷ []
-  -- the first loss passes the limit: U is then above it, and the second is not covered
-  pub limit-passed : cessions (quotaOf 1 4000 0 15000) (lossOf 1 1 20000 ∷ lossOf 1 1 10000 ∷ []) ≡ 6000 ∷ 0 ∷ []
-  -- U just below the limit: one cent is covered
+  -- also after an amount taken: 120 of 300
+  pub limit-none-later : cessionOf (quotaOf 1 4000 0 0) 7000 (lossOf 1 1 300)
+      ≡ record { ceded = 120; left = 180; taken = 7120 }
+  -- the limit is ceded money: 4,000 and 400 are taken, and of the third loss's 4,000 the 600 up to the limit
+  pub limit-reached : cessions (quotaOf 1 4000 0 5000) (lossOf 1 1 10000 ∷ lossOf 1 1 1000 ∷ lossOf 1 1 10000 ∷ [])
+      ≡ 4000 ∷ 400 ∷ 600 ∷ []
+  -- the first loss passes the limit: 8,000 are cut to it, and nothing is taken of the second
+  pub limit-passed : cessions (quotaOf 1 4000 0 7000) (lossOf 1 1 20000 ∷ lossOf 1 1 10000 ∷ []) ≡ 7000 ∷ 0 ∷ []
+  -- one cent is left of the limit
   pub limit-nearly : cessions (quotaOf 1 10000 0 15000) (lossOf 1 1 14999 ∷ lossOf 1 1 10000 ∷ []) ≡ 14999 ∷ 1 ∷ []
-  -- the limit cuts what a surplus covers before it cedes: 5,000 × 30,000 / 40,000
-  pub surplus-limited : cessions (surplusOf 1 10000 3 5000) (lossOf 1 40000 8000 ∷ []) ≡ 3750 ∷ []
+  -- a surplus cedes 8,000 × 30,000 / 40,000, cut to the limit
+  pub surplus-limited : cessions (surplusOf 1 10000 3 5000)
+      (lossOf 1 40000 8000 ∷ lossOf 1 40000 2000 ∷ lossOf 1 40000 8000 ∷ []) ≡ 5000 ∷ 0 ∷ 0 ∷ []
+  -- 4,400 of the limit are taken: of 4,000 the other 600 are ceded, 9,400 of g are left, and the limit is taken then
+  pub one-cession : cessionOf (quotaOf 1 4000 0 5000) 4400 (lossOf 1 1 10000)
+      ≡ record { ceded = 600; left = 9400; taken = 5000 }
+  -- the limit less what was taken is not below 0
+  pub limit-overrun : cessionOf (quotaOf 1 4000 0 5000) 6000 (lossOf 1 1 1000)
+      ≡ record { ceded = 0; left = 1000; taken = 6000 }
   -- E equal to the retention, and one above it: 8,000 × 1 / 10,001
   pub retained : cessions (surplusOf 1 10000 3 0) (lossOf 1 10000 8000 ∷ lossOf 1 10001 8000 ∷ []) ≡ 0 ∷ 0 ∷ []
   -- E equal to r × (1 + n), and one above it: 8,000 × 30,000 / 40,001
   pub upper-end : cessions (surplusOf 1 10000 3 0) (lossOf 1 40000 8000 ∷ lossOf 1 40001 8000 ∷ []) ≡ 6000 ∷ 5999 ∷ []
-  -- U 10,000 leaves 5,000 of the limit: 2,000 of 11,000 are ceded, 9,000 are left, and U is 21,000 then
-  pub one-cession : cessionOf (quotaOf 1 4000 0 15000) 10000 (lossOf 1 1 11000)
-      ≡ record { ceded = 2000; left = 9000; total = 21000 }
   -- E between r × n and r × (1 + n): 7,000 × 25,000 / 35,000
   pub between : cessions (surplusOf 1 10000 3 0) (lossOf 1 35000 7000 ∷ []) ≡ 5000 ∷ []
   -- rounded down, once, after the whole product: 102 × 5 / 7, and 102 × 3 × 2 / 11
@@ -54,28 +64,31 @@ pub record Corners : Type 0 where
   -- retention 0 and lines 0 mean their 0
   pub retention-zero : cessions (surplusOf 1 0 3 0) (lossOf 1 50000 8000 ∷ []) ≡ 0 ∷ []
   pub lines-zero : cessions (surplusOf 1 10000 0 0) (lossOf 1 50000 8000 ∷ []) ≡ 0 ∷ []
-  -- a loss of another treaty counts neither as a loss nor in U
-  pub others : cessions (quotaOf 1 4000 0 15000) (lossOf 1 1 10000 ∷ lossOf 2 1 9000 ∷ lossOf 1 1 8000 ∷ [])
-      ≡ 4000 ∷ 2000 ∷ []
+  -- of a loss of another treaty nothing is ceded, and nothing taken: 3,200 are cut to the 1,000 that are left
+  pub others : cessions (quotaOf 1 4000 0 5000) (lossOf 1 1 10000 ∷ lossOf 2 1 9000 ∷ lossOf 1 1 8000 ∷ [])
+      ≡ 4000 ∷ 1000 ∷ []
   -- g above E: 1,000,000 × 1 / 10,001, and 1,000,000 × 30,000 / 50,000
   pub above-maximum : cessions (surplusOf 1 10000 3 0) (lossOf 1 10001 1000000 ∷ lossOf 1 50000 1000000 ∷ [])
       ≡ 99 ∷ 600000 ∷ []
   -- E and g at their largest, cede and capacity one below: 10^13 × 9,999 × (10^13 − 1) / (10,000 × 10^13)
   pub largest : cessions (quotaOf 1 9999 9999999999999 0) (lossOf 1 10000000000000 10000000000000 ∷ [])
       ≡ 9998999999999 ∷ []
-  -- two treaties' losses in turn: the second of the quota share passes its event limit of 15,000 by 2,000, and none of
-  -- the surplus counts towards it
-  pub in-turn : cededOfEach (quotaOf 1 4000 0 15000 ∷ surplusOf 3 1000 3 0 ∷ []) []
+  -- the limit at its largest: 9,999 bp of 10^13 twice, the second cut to 10^13 less the first
+  pub limit-largest : cessions (quotaOf 1 9999 0 10000000000000)
+      (lossOf 1 1 10000000000000 ∷ lossOf 1 1 10000000000000 ∷ []) ≡ 9999000000000 ∷ 1000000000 ∷ []
+  -- two treaties' losses in turn: the quota share took 4,400 of its limit of 5,000 before its second loss, and what
+  -- the surplus took counts nothing towards it
+  pub in-turn : cededOfEach (quotaOf 1 4000 0 5000 ∷ surplusOf 3 1000 3 0 ∷ []) []
       (lossOf 1 9000 11000 ∷ lossOf 3 2500 1700 ∷ lossOf 1 9000 6000 ∷ lossOf 0 700 700 ∷ [])
-      ≡ 4400 ∷ 1020 ∷ 1600 ∷ 0 ∷ []
-  -- U of each treaty is the sum of its own earlier g: 3,000 and 4,500 before the second and third loss of the surplus,
-  -- 8,000 before the second of the quota share
-  pub own-totals : cededOfEach (quotaShare ∷ surplus ∷ []) [] mixed ≡ 2250 ∷ 3000 ∷ 0 ∷ 1125 ∷ 375 ∷ 400 ∷ []
-  pub own-quota : cessions quotaShare mixed ≡ 3000 ∷ 375 ∷ []
-  pub own-surplus : cessions surplus mixed ≡ 2250 ∷ 1125 ∷ 400 ∷ []
+      ≡ 4400 ∷ 1020 ∷ 600 ∷ 0 ∷ []
+  -- each treaty's limit is cut by what it took itself: 2,250 and 1,125 of 3,900 before the third loss of the surplus,
+  -- 3,000 of 3,400 before the second of the quota share; 800 and 750 would be ceded without
+  pub own-limits : cededOfEach (quotaShare ∷ surplus ∷ []) [] mixed ≡ 2250 ∷ 3000 ∷ 0 ∷ 1125 ∷ 400 ∷ 525 ∷ []
+  pub own-quota : cessions quotaShare mixed ≡ 3000 ∷ 400 ∷ []
+  pub own-surplus : cessions surplus mixed ≡ 2250 ∷ 1125 ∷ 525 ∷ []
 
 pub corners : Corners
-unfolding coveredPart cededByQuota cededBySurplus cededOf cededOfLoss cededIn rounded
+unfolding cededByQuota cededBySurplus cededOf cutToLimit cededOfLoss cededIn rounded
 corners = record {
   capacity-none = λ e. refl;
   capacity-passed = refl;
@@ -83,12 +96,15 @@ corners = record {
   cede-all = refl;
   cede-none = refl;
   limit-none = refl;
+  limit-none-later = refl;
+  limit-reached = refl;
   limit-passed = refl;
   limit-nearly = refl;
   surplus-limited = refl;
+  one-cession = refl;
+  limit-overrun = refl;
   retained = refl;
   upper-end = refl;
-  one-cession = refl;
   between = refl;
   surplus-rounded = refl;
   retention-zero = refl;
@@ -96,8 +112,9 @@ corners = record {
   others = refl;
   above-maximum = refl;
   largest = refl;
+  limit-largest = refl;
   in-turn = refl;
-  own-totals = refl;
+  own-limits = refl;
   own-quota = refl;
   own-surplus = refl;
 }

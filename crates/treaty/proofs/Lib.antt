@@ -3,4 +3,5 @@ pub mod Cases
 pub mod Cessions
 pub mod Own
 pub mod Losses
+pub mod EventLimit
 pub mod Corners

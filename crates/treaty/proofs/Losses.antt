@@ -1,11 +1,11 @@
 -- What the treaties of a table cede and leave of an event's losses in turn.
 -- Assumes nothing.
 use Prim.{Unit}
-use mathlib.Core.Path.{_≡_, refl, sym}
+use mathlib.Core.Path.{_≡_, refl, sym, ap, _∙_}
 use mathlib.Core.Bool.{Bool, true, false, cond}
 use mathlib.Core.List.{List, [], _∷_, _++_}
 use Prim.Native.Nat.{ℕ, _+_, _≤_, _<_, zero-le}
-use native.Mathlib.Nat.{zero-add, add-zero}
+use native.Mathlib.Nat.{zero-add, add-zero, add-assoc}
 use native.Mathlib.Omega.{arith}
 use borrow.Author.Tests.{ne-eqb, eqb-true, eq-eqb}
 use lib.Dec.{eqb}
@@ -14,7 +14,7 @@ use Rattle.lists.specs.Each.{Each}
 use Rattle.lists.proofs.Sums.{sum-same, sum-append, sum-add, sum-zero}
 use Rattle.treaty.specs.declared.Treaty.{Treaty}
 use Rattle.treaty.specs.declared.Loss.{Loss}
-use Rattle.treaty.specs.Treaty.{cededOfLoss, cessionsFrom, ownLosses, cessions}
+use Rattle.treaty.specs.Treaty.{cededOfLoss, cessionsFrom, ownLosses, cessions, takenBy}
 use Rattle.treaty.specs.Losses.{grossOf, cededIn, cededOfEach, leftOfEach}
 use Rattle.treaty.proofs.Cessions.{cond-le, ceded-le-amount}
 use Rattle.treaty.proofs.Own.{own-append}
@@ -30,7 +30,7 @@ pub ceded-le-loss : (ts : List Treaty) → Each (λ (t : Treaty). t .cede ≤ 10
 unfolding cededIn
 ceded-le-loss [] c earlier x = zero-le
 ceded-le-loss (t ∷ ts) c earlier x =
-    cond-le (eqb (x .treaty) (t .number)) (λ _. ceded-le-amount t (grossOf (ownLosses t earlier)) x (c .0))
+    cond-le (eqb (x .treaty) (t .number)) (λ _. ceded-le-amount t (takenBy t earlier) x (c .0))
     (λ _. ceded-le-loss ts (c .1) earlier x)
 
 -- what is ceded and what is left of losses are their amounts
@@ -41,13 +41,13 @@ all-ceded-and-left ts c earlier (x ∷ xs) =
     omega (arith, ceded-le-loss ts c earlier x, all-ceded-and-left ts c (earlier ++ (x ∷ [])) xs)
 
 -- what a treaty cedes of a loss after earlier ones: 0 where it is not its own
-abbrev cededOfOne : (earlier : List Loss) → Loss → Treaty → ℕ
+abbrev pub cededOfOne : (earlier : List Loss) → Loss → Treaty → ℕ
 cededOfOne earlier x t =
-    cond (eqb (x .treaty) (t .number)) (cededOfLoss t (grossOf (ownLosses t earlier)) x) 0
+    cond (eqb (x .treaty) (t .number)) (cededOfLoss t (takenBy t earlier) x) 0
 
 -- what it cedes of losses after earlier ones
 abbrev cededAfter : (earlier : List Loss) → List Loss → Treaty → ℕ
-cededAfter earlier xs t = total (cessionsFrom (grossOf (ownLosses t earlier)) t (ownLosses t xs))
+cededAfter earlier xs t = total (cessionsFrom (takenBy t earlier) t (ownLosses t xs))
 
 -- treaties with numbers above that of a loss cede nothing of it
 none-ceded : (n : ℕ) (ts : List Treaty) → Numbered n ts → (earlier : List Loss) (x : Loss) → x .treaty ≤ n
@@ -63,7 +63,7 @@ ceded-by-each : (n : ℕ) (ts : List Treaty) → Numbered n ts → (earlier : Li
 unfolding cededIn
 ceded-by-each n [] e earlier x = refl
 ceded-by-each n (t ∷ ts) e earlier x =
-    own-or-not (eqb (x .treaty) (t .number)) (cededOfLoss t (grossOf (ownLosses t earlier)) x)
+    own-or-not (eqb (x .treaty) (t .number)) (cededOfLoss t (takenBy t earlier) x)
     (λ q. none-ceded (t .number) ts (e .1) earlier x (omega (arith, eqb-true (x .treaty) (t .number) q)))
     (ceded-by-each (t .number) ts (e .1) earlier x)
   where
@@ -71,19 +71,36 @@ ceded-by-each n (t ∷ ts) e earlier x =
     own-or-not true c f q = omega (arith, f refl)
     own-or-not false c f q = omega arith
 
--- one loss more, its own or not, after losses that add up to u
-next-loss : (b : Bool) (u : ℕ) (t : Treaty) (x : Loss) (l : List Loss)
-    → total (cessionsFrom u t (cond b (x ∷ l) l))
-    ≡ cond b (cededOfLoss t u x) 0 + total (cessionsFrom (u + grossOf (cond b (x ∷ []) [])) t l)
-next-loss true u t x l = rw add-zero refl
-next-loss false u t x l = rw (add-zero, zero-add) refl
+-- one loss more, its own or not, after an amount taken
+next-loss : (b : Bool) (taken : ℕ) (t : Treaty) (x : Loss) (l : List Loss)
+    → total (cessionsFrom taken t (cond b (x ∷ l) l))
+    ≡ cond b (cededOfLoss t taken x) 0 + total (cessionsFrom (taken + cond b (cededOfLoss t taken x) 0) t l)
+next-loss true taken t x l = refl
+next-loss false taken t x l = rw (add-zero, zero-add) refl
+
+-- what is taken of losses in two parts
+taken-parts : (taken : ℕ) (t : Treaty) (xs ys : List Loss)
+    → total (cessionsFrom taken t (xs ++ ys))
+    ≡ total (cessionsFrom taken t xs) + total (cessionsFrom (taken + total (cessionsFrom taken t xs)) t ys)
+taken-parts taken t [] ys = rw (add-zero, zero-add) refl
+taken-parts taken t (x ∷ xs) ys =
+    let c = cededOfLoss t taken x in
+    rw (taken-parts (taken + c) t xs ys, add-assoc taken c, add-assoc c) refl
+
+-- what a treaty took of losses, and of one more
+pub taken-next : (t : Treaty) (earlier : List Loss) (x : Loss)
+    → takenBy t (earlier ++ (x ∷ [])) ≡ takenBy t earlier + cededOfOne earlier x t
+taken-next t earlier x =
+    rw (own-append t earlier (x ∷ []), taken-parts 0 t (ownLosses t earlier), zero-add)
+    (ap (λ (n : ℕ). takenBy t earlier + n)
+    (next-loss (eqb (x .treaty) (t .number)) (takenBy t earlier) t x [] ∙ add-zero _))
 
 -- what a treaty cedes of losses is what it cedes of the first, and of the others after it
 ceded-next : (earlier : List Loss) (x : Loss) (xs : List Loss) (t : Treaty)
     → cededAfter earlier (x ∷ xs) t ≡ cededOfOne earlier x t + cededAfter (earlier ++ (x ∷ [])) xs t
 ceded-next earlier x xs t =
-    rw (own-append t earlier (x ∷ []), sum-append)
-    (next-loss (eqb (x .treaty) (t .number)) (grossOf (ownLosses t earlier)) t x (ownLosses t xs))
+    rw (taken-next t earlier x)
+    (next-loss (eqb (x .treaty) (t .number)) (takenBy t earlier) t x (ownLosses t xs))
 
 module _ (n : ℕ) (ts : List Treaty) (e : Numbered n ts) where
   -- the same is ceded after earlier losses, loss by loss or treaty by treaty
@@ -112,7 +129,7 @@ number-above n (b ∷ before) t after e = omega (arith, e .0, number-above (b .n
 pub ceded-by-own : (n : ℕ) (before : List Treaty) (t : Treaty) (after : List Treaty)
     → Numbered n (before ++ (t ∷ after)) → (earlier : List Loss) (x : Loss)
     → x .treaty ≡ t .number
-    → cededIn (before ++ (t ∷ after)) earlier x ≡ cededOfLoss t (grossOf (ownLosses t earlier)) x
+    → cededIn (before ++ (t ∷ after)) earlier x ≡ cededOfLoss t (takenBy t earlier) x
 unfolding cededIn
 ceded-by-own n [] t after e earlier x q = rw (eq-eqb (x .treaty) (t .number) q)
 ceded-by-own n (b ∷ before) t after e earlier x q =
@@ -134,7 +151,7 @@ treaty-ceded n before t after e xs = from [] xs
   where
     own : (earlier : List Loss) (x : Loss) (b : Bool) → eqb (x .treaty) (t .number) ≡ b
         → cond b (cededIn (before ++ (t ∷ after)) earlier x) 0
-        ≡ cond b (cededOfLoss t (grossOf (ownLosses t earlier)) x) 0
+        ≡ cond b (cededOfLoss t (takenBy t earlier) x) 0
     own earlier x true q = ceded-by-own n before t after e earlier x (eqb-true (x .treaty) (t .number) q)
     own earlier x false q = refl
 

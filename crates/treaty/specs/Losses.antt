@@ -1,5 +1,5 @@
--- Document 01, Proportional treaties: "Within one event and one treaty, let U be the sum of the earlier g."; "What is
--- left of g goes to the risk layers." The losses of one event in turn through the treaties of a table.
+-- Document 01, Proportional treaties: "What is left of g goes to the risk layers. A treaty's cession depends on its
+-- own losses and terms only." The losses of one event in turn through the treaties of a table.
 -- Assumes nothing.
 use mathlib.Core.Bool.{cond}
 use mathlib.Core.List.{List, [], _∷_, _++_}
@@ -8,18 +8,18 @@ use lib.Dec.{eqb}
 use Rattle.lists.specs.Sums.{sumOf}
 use Rattle.treaty.specs.declared.Treaty.{Treaty}
 use Rattle.treaty.specs.declared.Loss.{Loss}
-use Rattle.treaty.specs.Treaty.{ownLosses, cededOfLoss}
+use Rattle.treaty.specs.Treaty.{cededOfLoss, takenBy}
 
 -- the amounts g of losses, added
 abbrev pub grossOf : List Loss → ℕ
 grossOf xs = sumOf (λ (x : Loss). x .amount) xs
 
--- What is ceded of a loss after the earlier ones of its event, by the treaty with its number: U is the sum of that
--- treaty's earlier g. 0 without such a treaty.
+-- What is ceded of a loss after the earlier ones of its event, by the treaty with its number, which took its part of
+-- those. 0 without such a treaty.
 unfoldable pub cededIn : List Treaty → (earlier : List Loss) → Loss → ℕ
 cededIn [] earlier x = 0
 cededIn (t ∷ ts) earlier x =
-    cond (eqb (x .treaty) (t .number)) (cededOfLoss t (grossOf (ownLosses t earlier)) x) (cededIn ts earlier x)
+    cond (eqb (x .treaty) (t .number)) (cededOfLoss t (takenBy t earlier) x) (cededIn ts earlier x)
 
 -- what is left of its g
 abbrev pub leftIn : List Treaty → (earlier : List Loss) → Loss → ℕ

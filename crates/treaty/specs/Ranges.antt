@@ -19,16 +19,16 @@ pub record LossInRange (x : Loss) : Type 0 where
   pub maximum-high : x .maximum ≤ 10 ^ 13
   pub amount : x .amount ≤ 10 ^ 13
 
--- a covered part c of a loss with estimated maximum loss e
-pub record PartInRange (t : Treaty) (e c : ℕ) : Type 0 where
+-- an amount g of a loss with estimated maximum loss e
+pub record AmountInRange (t : Treaty) (e g : ℕ) : Type 0 where
   pub terms : TermsInRange t
   pub maximum-low : 1 ≤ e
   pub maximum-high : e ≤ 10 ^ 13
-  pub covered : c ≤ 10 ^ 13
+  pub amount : g ≤ 10 ^ 13
 
--- a loss that a treaty may be given, after earlier ones of the event that add up to u: all of a text's amounts
--- add up to less than 2 ^ 62
-pub record Cedable (t : Treaty) (u : ℕ) (x : Loss) : Type 0 where
+-- a loss that a treaty may be given after it took an amount in the event: what is ceded of all losses of a text adds
+-- up to less than 2 ^ 62
+pub record Cedable (t : Treaty) (taken : ℕ) (x : Loss) : Type 0 where
   pub terms : TermsInRange t
   pub loss : LossInRange x
-  pub earlier : u < 2 ^ 62
+  pub taken-below : taken < 2 ^ 62

@@ -1,4 +1,5 @@
--- Document 01, Checked figures: H1, C1 to C8 and L1 to L4, as a single theorem about the definitions.
+-- Document 01, Checked figures: H1, C1 to C8 and L1 to L4, C4 as document 02, Q-3 has it, as a single theorem about
+-- the definitions.
 -- Assumes nothing.
 use mathlib.Core.Path.{_≡_, refl}
 use mathlib.Core.List.{List, [], _∷_, _++_, map}
@@ -10,8 +11,8 @@ use Rattle.text.specs.Bytes.{bytes}
 use Rattle.text.specs.Number.{printedBy, printed, digitOf, readOn, number}
 use Rattle.text.specs.Template.{capital, filled, matched, wholeOf, lineNumbers}
 use Rattle.text.specs.Lines.{linesOf}
-use Rattle.treaty.specs.Treaty.{quotaOf, surplusOf, lossOf, cessions, coveredPart, cededByQuota, cededBySurplus}
-use Rattle.treaty.specs.Treaty.{cededOf, cededOfLoss}
+use Rattle.treaty.specs.Treaty.{quotaOf, surplusOf, lossOf, cessions, cededByQuota, cededBySurplus}
+use Rattle.treaty.specs.Treaty.{cededOf, cutToLimit, cededOfLoss}
 use Rattle.treaty.specs.Losses.{cededIn}
 use Rattle.layer.specs.declared.terms.Terms.{Terms}
 use Rattle.layer.specs.Layer.{termsOf, broughtBy, layerOf, recoveriesOf, placedOf, recoveredOf, premiumOf, recoveryOf}
@@ -70,7 +71,10 @@ pub record Checked : Type 0 where
   pub C3 : cessions (quotaOf 1 4000 20000 0) (lossOf 1 20000 10000 ∷ []) ≡ 4000 ∷ []
   pub C4 : (e : ℕ)
       → cessions (quotaOf 1 4000 0 15000) (lossOf 1 e 10000 ∷ lossOf 1 e 10000 ∷ lossOf 1 e 10000 ∷ [])
-      ≡ 4000 ∷ 2000 ∷ 0 ∷ []
+      ≡ 4000 ∷ 4000 ∷ 4000 ∷ []
+  pub C4-with-limit-5000 : (e : ℕ)
+      → cessions (quotaOf 1 4000 0 5000) (lossOf 1 e 10000 ∷ lossOf 1 e 10000 ∷ lossOf 1 e 10000 ∷ [])
+      ≡ 4000 ∷ 1000 ∷ 0 ∷ []
   -- surplus 10,000 with 3 lines; C5 holds for any loss
   pub C5 : (g : ℕ) → cessions (surplusOf 1 10000 3 0) (lossOf 1 10000 g ∷ []) ≡ 0 ∷ []
   pub C6 : cessions (surplusOf 1 10000 3 0) (lossOf 1 10001 10001 ∷ []) ≡ 1 ∷ []
@@ -89,7 +93,7 @@ pub record Checked : Type 0 where
 pub checked : Checked
 unfolding
     rounded printedBy printed digitOf readOn number capital filled matched wholeOf lineNumbers linesOf
-    coveredPart cededByQuota cededBySurplus cededOf cededOfLoss placedOf recoveredOf premiumOf recoveryOf
+    cededByQuota cededBySurplus cededOf cutToLimit cededOfLoss placedOf recoveredOf premiumOf recoveryOf
     chargeOf kindOf formOfKind formOf outside treatyOutside termsOutside treatyNotZero termsNotZero treatyFault
     layerFault readFrom readOf validTreaties validLayers valid closes lossesUpTo eventOf lossOutside
     eventOutside lacking eventFault eventsOf eventsFrom cededIn subjectOf statementText openOf standingPasses fitted
@@ -104,6 +108,7 @@ checked = record {
   C2 = refl;
   C3 = refl;
   C4 = λ e. refl;
+  C4-with-limit-5000 = λ e. refl;
   C5 = λ g. refl;
   C6 = refl;
   C7 = refl;

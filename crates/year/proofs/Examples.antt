@@ -13,7 +13,7 @@ use Rattle.text.specs.Bytes.{bytes}
 use Rattle.text.specs.Number.{printedBy, printed, digitOf, readOn, number}
 use Rattle.text.specs.Template.{capital, filled, matched, wholeOf, lineNumbers}
 use Rattle.text.specs.Lines.{linesOf}
-use Rattle.treaty.specs.Treaty.{coveredPart, cededByQuota, cededBySurplus, cededOf, cededOfLoss}
+use Rattle.treaty.specs.Treaty.{cededByQuota, cededBySurplus, cededOf, cutToLimit, cededOfLoss}
 use Rattle.treaty.specs.Losses.{cededIn}
 use Rattle.layer.specs.Layer.{placedOf, recoveredOf, premiumOf, recoveryOf, chargeOf}
 use Rattle.answer.specs.Outcome.{fitted}
@@ -42,7 +42,7 @@ use Rattle.year.proofs.Parts.{lineByLine}
 -- a quota share with an event limit, a surplus, two risk layers and two catastrophe layers
 abbrev table : List ℕ
 table =
-    bytes "(quota 1 (cede 4000) (capacity 0) (event 15000))\n"
+    bytes "(quota 1 (cede 4000) (capacity 0) (event 6000))\n"
     ++ bytes "(surplus 3 (retain 1000) (lines 3) (event 0))\n"
     ++ bytes "(risk (band 500 1000) (deduct 100) (back 3 5000 800) (placed 3333))\n"
     ++ bytes "(risk (band 1600 900) (deduct 0) (back 3 2000 700) (placed 9999))\n"
@@ -59,8 +59,8 @@ callOf s = record { text = s; buffer = replicate 600 7 }
 abbrev call : String → Call
 call s = callOf (bytes s)
 
--- Two events on one day. In the first the quota share's second loss comes after a loss of the surplus and passes the
--- event limit; with the second event U begins again at 0.
+-- Two events on one day. In the first the quota share's second loss comes after a loss of the surplus, and its 2,400
+-- are cut to what 4,400 leave of the event limit; with the second event the limit is whole again.
 abbrev first : Call
 first =
     callOf
@@ -198,7 +198,7 @@ pub record Examples : Type 0 where
 pub examples : Examples
 unfolding
     rounded printedBy printed digitOf readOn number capital filled matched wholeOf lineNumbers linesOf
-    coveredPart cededByQuota cededBySurplus cededOf cededOfLoss placedOf recoveredOf premiumOf recoveryOf
+    cededByQuota cededBySurplus cededOf cutToLimit cededOfLoss placedOf recoveredOf premiumOf recoveryOf
     chargeOf kindOf formOfKind formOf outside treatyOutside termsOutside treatyNotZero termsNotZero treatyFault
     layerFault readFrom readOf validTreaties validLayers valid closes lossesUpTo eventOf statedIn lossOutside
     eventOutside lacking eventFault eventsOf eventsFrom cededIn subjectOf statementText standingPasses fitted

@@ -3,22 +3,26 @@
 use mathlib.Core.Path.{_≡_, _∙_}
 use mathlib.Core.Bool.{true}
 use mathlib.Core.List.{List, [], _∷_}
-use Prim.Native.Nat.{ℕ, _≤_}
+use Prim.Native.Nat.{ℕ, _*_, _≤_, _<_}
+use lib.ListN.{length}
 use Rattle.lists.specs.Sums.{sumOf, total}
 use Rattle.lists.specs.Each.{Each}
 use Rattle.lists.specs.Chains.{chained}
 use Rattle.lists.proofs.Sums.{sum-same, sum-swap}
 use Rattle.lists.proofs.Chains.{both}
-use Rattle.lists.proofs.Each.{each-chained}
+use Rattle.lists.proofs.Each.{each-chained, each-of}
+use Rattle.lists.proofs.Bounds.{sum-le}
 use Rattle.treaty.specs.declared.Treaty.{Treaty}
 use Rattle.treaty.specs.Treaty.{cessions}
 use Rattle.treaty.specs.Losses.{cededOfEach}
 use Rattle.treaty.proofs.Losses.{Numbered, event-ceded}
+use Rattle.treaty.proofs.EventLimit.{event-limit}
 use Rattle.programme.specs.Rules.{treatyNumber}
 use Rattle.programme.specs.Valid.{treatyPasses}
 use Rattle.programme.proofs.Bounds.{treaty-in-range}
 use Rattle.programme.proofs.Lawful.{treaty-passed}
 use Rattle.events.specs.Event.{Event}
+use Rattle.year.specs.Statement.{cededBy}
 use Rattle.year.specs.History.{cededByAll}
 
 module _ (n : ℕ) (ts : List Treaty) (e : chained treatyPasses treatyNumber n ts ≡ true) where
@@ -47,3 +51,9 @@ pub events-ceded : (n : ℕ) (ts : List Treaty) → chained treatyPasses treatyN
 events-ceded n ts e es =
     sum-same (λ f. event-ceded n ts (passed-rising n ts e) (f .losses)) es
     ∙ sum-swap (λ (f : Event) (t : Treaty). total (cessions t (f .losses))) es ts
+
+-- a treaty's line shows at most its limit for each event
+pub events-limit : (t : Treaty) → 0 < t .limit → (es : List Event) → cededBy es t ≤ length es * t .limit
+events-limit t h es =
+    sum-le (λ (f : Event). 0 < t .limit) (λ (f : Event). total (cessions t (f .losses))) (t .limit)
+    (λ f k. event-limit t k (f .losses)) es (each-of (λ (f : Event). 0 < t .limit) (λ f. h) es)

@@ -1,12 +1,12 @@
--- A statement worked by hand: two events of three losses each, under two treaties, two risk layers and two catastrophe
--- layers.
+-- Statements worked by hand: two events of three losses each, under two treaties, two risk layers and two catastrophe
+-- layers; and two events of one day under two treaties with different event limits.
 -- Assumes nothing.
 use mathlib.Core.Path.{_≡_, refl}
 use mathlib.Core.List.{List, [], _∷_}
 use Rattle.arith.specs.Round.{rounded}
 use Rattle.treaty.specs.declared.Treaty.{Treaty}
-use Rattle.treaty.specs.Treaty.{quotaOf, surplusOf, lossOf, coveredPart, cededByQuota, cededBySurplus, cededOf}
-use Rattle.treaty.specs.Treaty.{cededOfLoss}
+use Rattle.treaty.specs.Treaty.{quotaOf, surplusOf, lossOf, cededByQuota, cededBySurplus, cededOf}
+use Rattle.treaty.specs.Treaty.{cutToLimit, cededOfLoss}
 use Rattle.treaty.specs.Losses.{cededIn}
 use Rattle.layer.specs.Layer.{termsOf, layerOf, placedOf, recoveredOf, premiumOf, recoveryOf, chargeOf}
 use Rattle.events.specs.Event.{Event}
@@ -15,7 +15,7 @@ use Rattle.year.specs.Statement.{Statement, statementOf}
 
 -- a quota share with an event limit, and a surplus
 abbrev treaties : List Treaty
-treaties = quotaOf 4 3333 0 3700 ∷ surplusOf 6 900 3 0 ∷ []
+treaties = quotaOf 4 3333 0 1232 ∷ surplusOf 6 900 3 0 ∷ []
 
 -- premiums of 3 / 7 and 8 / 9, of 87 / 110 and 99 / 80 of B
 abbrev year : Year
@@ -26,9 +26,9 @@ year = record {
       layerOf (termsOf 1300 1100 250 1 6000 1450 9999) 0 ∷ layerOf (termsOf 2500 800 0 1 9000 1100 7201) 0 ∷ [];
 }
 
--- Of the first event's losses the treaties leave 1,736, 1,660 and 822, for the event limit leaves 1,097 of the last
--- covered, and the risk layers 1,293, 1,095 and 714; of the second's 2,382, 2,347 and 200, and 1,542, 1,699 and 200.
--- The catastrophe layers' subjects are 3,102 and 3,441.
+-- Of the first event's losses the treaties leave 1,736, 1,660 and 822, for the last one's 395 are cut to what 867
+-- leave of the event limit, and the risk layers 1,293, 1,095 and 714; of the second's 2,382, 2,347 and 200, and 1,542,
+-- 1,699 and 200. The catastrophe layers' subjects are 3,102 and 3,441.
 abbrev events : List Event
 events =
     record { day = 17; losses = lossOf 4 9000 2603 ∷ lossOf 0 2000 1660 ∷ lossOf 4 1500 1187 ∷ [] }
@@ -60,6 +60,37 @@ shown = record {
 
 pub worked : statementOf treaties year events ≡ shown
 unfolding
-    rounded coveredPart cededByQuota cededBySurplus cededOf cededOfLoss cededIn placedOf recoveredOf premiumOf
+    rounded cededByQuota cededBySurplus cededOf cutToLimit cededOfLoss cededIn placedOf recoveredOf premiumOf
     recoveryOf chargeOf subjectOf
 worked = refl
+
+-- a quota share that takes at most 900 of an event, and a surplus that takes at most 1,300
+abbrev limitedTreaties : List Treaty
+limitedTreaties = quotaOf 2 2500 0 900 ∷ surplusOf 5 1000 2 1300 ∷ []
+
+-- Without limits 900, 750, 700 and 250 would be ceded in the first event, and in the second 899, 2 and 1,000. The
+-- limits cut 700 to 400, 250 to 150 and 2 to 1; each is whole again with the second event, though the day is the same.
+abbrev limitedEvents : List Event
+limitedEvents =
+    record { day = 40; losses = lossOf 5 2000 1800 ∷ lossOf 2 1 3000 ∷ lossOf 5 4000 1400 ∷ lossOf 2 1 1001 ∷ [] }
+    ∷ record { day = 40; losses = lossOf 2 1 3599 ∷ lossOf 2 1 8 ∷ lossOf 5 3000 1500 ∷ [] } ∷ []
+
+abbrev limitedShown : Statement
+limitedShown = record {
+  events =
+      record {
+        day = 40;
+        amounts = record { gross = 7201; ceded = 2200; risk = 0; cat = 0; net = 5001; premium = 0 };
+      }
+      ∷ record {
+        day = 40;
+        amounts = record { gross = 5107; ceded = 1900; risk = 0; cat = 0; net = 3207; premium = 0 };
+      } ∷ [];
+  treaties = record { number = 2; ceded = 1800 } ∷ record { number = 5; ceded = 2300 } ∷ [];
+  layers = record { risk = []; cat = [] };
+  total = record { gross = 12308; ceded = 4100; risk = 0; cat = 0; net = 8208; premium = 0 };
+}
+
+pub limits-worked : statementOf limitedTreaties (record { risk = []; cat = [] }) limitedEvents ≡ limitedShown
+unfolding rounded cededByQuota cededBySurplus cededOf cutToLimit cededOfLoss cededIn subjectOf
+limits-worked = refl

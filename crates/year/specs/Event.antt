@@ -18,7 +18,7 @@ use Rattle.year.specs.Tiers.{Tiers}
 abbrev pub Year : Type 0
 Year = Tiers (List Layer)
 
--- what the treaties leave of an event's losses; U begins again at 0 with each event
+-- what the treaties leave of an event's losses; before the first they have taken nothing
 abbrev pub leftByTreaties : List Treaty → Event → List ℕ
 leftByTreaties ts e = leftOfEach ts [] (e .losses)
 

@@ -32,7 +32,7 @@ pub record TreatyLine : Type 0 where
   pub number : ℕ
   pub ceded : ℕ
 
--- what a treaty cedes of the losses of events; U begins again at 0 with each event
+-- what a treaty cedes of the losses of events: in each it begins with nothing taken
 abbrev pub cededBy : List Event → Treaty → ℕ
 cededBy es t = sumOf (λ (e : Event). total (cessions t (e .losses))) es
 

@@ -10,11 +10,11 @@ use Rattle.losses.proofs.cede.cede_each.Statement.{statement}
 use Rattle.losses.proofs.cede.cede_each.Tie as tie
 
 abbrev Inv-loop : tie.InvT-loop
-Inv-loop losses left₀ cessions₀ table count earlier₀ gross₀ ceded₀ i₀ left cessions earlier gross ceded i =
-    law.Ceding (table .places) (lossesFrom losses) count left₀ cessions₀ left cessions earlier gross ceded i
+Inv-loop losses left₀ cessions₀ table count taken₀ gross₀ ceded₀ i₀ left cessions taken gross ceded i =
+    law.Ceding (table .places) (lossesFrom losses) count left₀ cessions₀ left cessions taken gross ceded i
 
 abbrev μ-loop : tie.MeasureT-loop
-μ-loop losses left₀ cessions₀ table count earlier₀ gross₀ ceded₀ i₀ left cessions earlier gross ceded i =
+μ-loop losses left₀ cessions₀ table count taken₀ gross₀ ceded₀ i₀ left cessions taken gross ceded i =
     count - i
 
 -- the next loss is in range
@@ -51,11 +51,11 @@ mul-left c = search needs
 slice-write-left : tie.Need-slice-write-left Inv-loop μ-loop
 slice-write-left c = search needs
 
-mul-earlier : tie.Need-mul-earlier Inv-loop μ-loop
-mul-earlier c = let r = in-range (c .before .before) in search needs
+mul-taken : tie.Need-mul-taken Inv-loop μ-loop
+mul-taken c = let r = in-range (c .before .before) in search needs
 
-array-write-earlier : tie.Need-array-write-earlier Inv-loop μ-loop
-array-write-earlier c = let r = in-range (c .before .before) in search needs
+array-write-taken : tie.Need-array-write-taken Inv-loop μ-loop
+array-write-taken c = let r = in-range (c .before .before) in search needs
 
 mul-cessions : tie.Need-mul-cessions Inv-loop μ-loop
 mul-cessions c = let r = in-range (c .before .before) in search needs
@@ -108,8 +108,8 @@ cede-each-spec =
     cede-requires
     mul-left
     slice-write-left
-    mul-earlier
-    array-write-earlier
+    mul-taken
+    array-write-taken
     mul-cessions
     slice-read-cessions
     add-cessions

@@ -1,9 +1,9 @@
--- `treaty::Treaty::covered` meets its contract.
+-- `treaty::Treaty::cut_to_limit` meets its contract.
 -- Assumes nothing.
 use borrow.Author.Needs.{needs}
 use Rattle.treaty.proofs.Cases.{unlimited, used-up, within-limit, above-limit}
-use Rattle.treaty.proofs.Treaty.covered.Statement.{statement}
-use Rattle.treaty.proofs.Treaty.covered.Tie as tie
+use Rattle.treaty.proofs.Treaty.cut_to_limit.Statement.{statement}
+use Rattle.treaty.proofs.Treaty.cut_to_limit.Tie as tie
 
 returns : tie.Need-returns
 returns c = search unlimited
@@ -20,5 +20,5 @@ returns-3 c = search within-limit
 returns-4 : tie.Need-returns-4
 returns-4 c = search above-limit
 
-pub covered-spec : {M : Type 1} → statement M
-covered-spec = tie.close (tie.spec returns returns-2 sub-room returns-3 returns-4)
+pub cut-to-limit-spec : {M : Type 1} → statement M
+cut-to-limit-spec = tie.close (tie.spec returns returns-2 sub-room returns-3 returns-4)
