@@ -19,12 +19,13 @@ pub struct Case {
 // A case's name, and the case, drawn when it is asked for.
 type Named = (&'static str, fn() -> Case);
 
-pub const CASES: [Named; 13] = [
+pub const CASES: [Named; 14] = [
     ("full", || Case::new(full_table(), [full_text(MIXED)])),
     ("unreached", || Case::new(unreached_table(), [full_text(MIXED)])),
     ("open", || Case::new(open_table(), [full_text(MIXED)])),
-    ("quota", || Case::new(quota_table(0), [full_text(CEDED)])),
-    ("capacity", || Case::new(quota_table(10_000_000), [full_text(CEDED)])),
+    ("quota", || Case::new(quota_table(0, 0), [full_text(CEDED)])),
+    ("capacity", || Case::new(quota_table(10_000_000, 0), [full_text(CEDED)])),
+    ("limited", || Case::new(quota_table(0, 200_000_000), [full_text(CEDED)])),
     ("surplus", || Case::new(surplus_table(), [full_text(CEDED)])),
     ("large", || Case::new(large_table(), [full_text(LARGE)])),
     ("one-loss", || Case::new(full_table(), [full_text(Draw { losses: 1, ..MIXED })])),
@@ -151,8 +152,8 @@ fn open_table() -> String {
         + &layers("cat", 8, 50_000_000, 150_000_000, 2_600_000_000, 7_500_001)
 }
 
-fn quota_table(capacity: u64) -> String {
-    format!("(quota 1 (cede 4000) (capacity {capacity}) (event 0))\n")
+fn quota_table(capacity: u64, limit: u64) -> String {
+    format!("(quota 1 (cede 4000) (capacity {capacity}) (event {limit}))\n")
 }
 
 fn surplus_table() -> String {

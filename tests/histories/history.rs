@@ -110,6 +110,7 @@ impl History {
             self.lent = before;
         } else if answer.refusal == 0 {
             tally.count_bounds(&ledger, &self.ledger);
+            tally.limits.count(&self.ledger.programme, &run.events);
             self.take_in(&run, &lent, &found, tally)?;
         }
         Ok(())

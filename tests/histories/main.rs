@@ -16,6 +16,8 @@ mod draw;
 mod history;
 mod in_two;
 mod ledger;
+#[path = "../shared/limits.rs"]
+mod limits;
 #[path = "../shared/random.rs"]
 mod random;
 #[path = "../../bindings/rust/src/raw.rs"]

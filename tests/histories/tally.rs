@@ -2,6 +2,7 @@
 
 use crate::aim::bounds;
 use crate::ledger::Ledger;
+use crate::limits::Limits;
 use crate::raw::{Answer, Programme};
 use crate::runs::Run;
 use crate::totals::has_all;
@@ -22,6 +23,9 @@ const LEAST_REACHED: usize = 20;
 
 /// Of a hundred histories, how many have a layer that a run brings to each bound to the cent, or one cent beside it.
 const LEAST_MET: usize = 33;
+
+/// For a hundred histories, how often an event limit is met in each way.
+const LEAST_LIMITS: usize = 5;
 
 /// For a hundred histories, how many cuts are compared.
 const LEAST_CUTS: usize = 200;
@@ -45,6 +49,7 @@ pub struct Tally {
     full: usize,
     reached: ByBound,
     met: ByBound,
+    pub limits: Limits,
     /// Of the history under way.
     reaches: [bool; 3],
     meets: [bool; 3],
@@ -100,6 +105,8 @@ impl Tally {
         let counts = BOUNDS.iter().zip(self.reached).zip(self.met);
         let counts: Vec<String> = counts.map(|((name, reached), met)| format!("{name} {reached}, {met}")).collect();
         println!("{}", counts.join("; "));
+        let counts = self.limits.counts().map(|(way, count)| format!("{way} {count}"));
+        println!("histories: event limits: {}", counts.collect::<Vec<String>>().join(", "));
     }
 
     /// What the histories should have reached and did not.
@@ -110,6 +117,9 @@ impl Tally {
             ("cuts".to_string(), self.cuts, LEAST_CUTS),
             ("histories with cessions, both recoveries and premium".to_string(), self.full, LEAST_FULL),
         ];
+        for (way, count) in self.limits.counts() {
+            counts.push((format!("event limits met, {way}"), count, LEAST_LIMITS));
+        }
         for refusal in REFUSALS {
             let count = self.refused.get(&refusal).copied().unwrap_or(0);
             counts.push((format!("runs refused with {refusal}"), count, LEAST_RUNS));

@@ -5,7 +5,7 @@
 //! keeps, never taken as gross less recoveries.
 
 #[path = "events.rs"]
-mod events;
+pub mod events;
 #[path = "formulas.rs"]
 mod formulas;
 #[path = "statement.rs"]

@@ -58,16 +58,18 @@ fn quota(random: &mut Random, number: u64, scale: u64, table: &mut Table) {
     let cede = share(random);
     let capacity = near(random, scale);
     let capacity = none_or(random, capacity);
-    let limit = near(random, 2 * scale);
+    let limit = near(random, scale);
     let limit = none_or(random, limit);
-    table.marks.extend([capacity, limit]);
+    // The amount of which the limit is ceded.
+    let reaching = (limit * 10_000).checked_div(cede).unwrap_or(0).min(LARGEST_AMOUNT);
+    table.marks.extend([capacity, limit, reaching]);
     table.lines.push(line(format!("(quota {number} (cede {cede}) (capacity {capacity}) (event {limit}))")));
 }
 
 fn surplus(random: &mut Random, number: u64, scale: u64, table: &mut Table) {
     let retention = near(random, scale / 3);
     let lines = random.pick(&[0, 1, 2, 3, 9, 100]);
-    let limit = near(random, 2 * scale);
+    let limit = near(random, scale);
     let limit = none_or(random, limit);
     table.marks.extend([retention, retention * (1 + lines), limit]);
     table.lines.push(line(format!("(surplus {number} (retain {retention}) (lines {lines}) (event {limit}))")));
@@ -172,7 +174,8 @@ pub fn full_events(random: &mut Random, scale: u64, table: &Table, size: usize) 
 pub fn largest_table(random: &mut Random) -> Table {
     let mut table = Table { treaties: vec![8], ..Table::default() };
     let cede = random.pick(&[1, 9_999]);
-    table.lines.push(line(format!("(quota 8 (cede {cede}) (capacity 9999999999999) (event 0))")));
+    let limit = random.pick(&[0, 1, LARGEST_AMOUNT - 1, LARGEST_AMOUNT]);
+    table.lines.push(line(format!("(quota 8 (cede {cede}) (capacity 9999999999999) (event {limit}))")));
     for tier in ["risk", "cat"] {
         let attachment = random.pick(&[0, 1, LARGEST_AMOUNT / 2, LARGEST_AMOUNT]);
         let limit = random.pick(&[1, LARGEST_AMOUNT - 1, LARGEST_AMOUNT]);

@@ -9,6 +9,8 @@ mod cases;
 mod damage;
 #[path = "../shared/draw.rs"]
 mod draw;
+#[path = "../shared/limits.rs"]
+mod limits;
 #[path = "../second/printed.rs"]
 mod printed;
 #[path = "../shared/random.rs"]
@@ -109,7 +111,7 @@ fn main() -> io::Result<()> {
             report(&folder, &case, &expected, &found);
             exit(1);
         }
-        tally.count(case.table(), &expected);
+        tally.count(case.table(), &case.events, &expected);
     }
     fs::remove_dir_all(&folder)?;
     tally.print(seed);

@@ -1,5 +1,7 @@
 //! What the years compared so far have reached.
 
+use crate::calculation::read_table;
+use crate::limits::Limits;
 use crate::table_damage::{kind_of, MISPLACED};
 use crate::totals::{has_all, numbers, totals};
 use std::collections::BTreeMap;
@@ -22,6 +24,7 @@ pub struct Tally {
     cat: usize,
     premium: usize,
     all: usize,
+    limits: Limits,
 }
 
 /// The pairs of kinds in words.
@@ -30,11 +33,15 @@ fn misplaced_names() -> impl Iterator<Item = String> {
 }
 
 impl Tally {
-    pub fn count(&mut self, table: Option<&[u8]>, printed: &[u8]) {
+    pub fn count(&mut self, table: Option<&[u8]>, events: &[u8], printed: &[u8]) {
         self.compared += 1;
+        let table = table.unwrap_or_default();
         let Some(amounts) = totals(printed) else {
-            return self.count_refusal(table.unwrap_or_default(), printed);
+            return self.count_refusal(table, printed);
         };
+        if let Ok(programme) = read_table(table) {
+            self.limits.count(&programme, events);
+        }
         self.accepted += 1;
         self.ceded += usize::from(amounts[1] > 0);
         self.risk += usize::from(amounts[2] > 0);
@@ -70,6 +77,8 @@ impl Tally {
         println!(", all four {}", self.all);
         let counts = misplaced_names().zip(self.misplaced).map(|(name, count)| format!("{name} {count}"));
         println!("years: out of order: {}", counts.collect::<Vec<String>>().join(", "));
+        let counts = self.limits.counts().map(|(way, count)| format!("{way} {count}"));
+        println!("years: event limits: {}", counts.collect::<Vec<String>>().join(", "));
     }
 
     /// What the years should have reached and did not.
@@ -78,6 +87,8 @@ impl Tally {
         let mut missing: Vec<String> = unseen.map(|refusal| format!("no year refused with {refusal}")).collect();
         let unplaced = misplaced_names().zip(self.misplaced).filter(|(_, count)| *count == 0);
         missing.extend(unplaced.map(|(name, _)| format!("no table with a {name}")));
+        let unmet = self.limits.counts().filter(|(_, count)| *count == 0);
+        missing.extend(unmet.map(|(way, _)| format!("no event limit met: {way}")));
         if self.all * 100 < self.compared * LEAST_FULL_YEARS {
             missing.push("too few years with cessions, recoveries of both tiers and premium".to_string());
         }
