@@ -13,6 +13,7 @@ use Rattle.lists.specs.Sums.{sumOf, total}
 use Rattle.treaty.specs.declared.Treaty.{Treaty}
 use Rattle.treaty.specs.declared.Loss.{Loss}
 use Rattle.treaty.specs.Treaty.{cededOf, cutToLimit, cededOfLoss, cessionsFrom, ownLosses, takenBy}
+use Rattle.treaty.proofs.Cessions.{cut-le}
 use Rattle.treaty.proofs.Losses.{Numbered, cededOfOwn, treaty-ceded}
 
 -- what a treaty would take of losses without its limit
@@ -32,14 +33,6 @@ cut-in-turn limit taken c d = none-or-some (eqb limit 0)
     none-or-some true = refl
     none-or-some false = omega arith
 
-cut-zero : (limit taken : ℕ) → 0 ≡ cutToLimit limit taken 0
-unfolding cutToLimit
-cut-zero limit taken = none-or-some (eqb limit 0)
-  where
-    none-or-some : (b : Bool) → 0 ≡ cond b 0 (min 0 (limit - taken))
-    none-or-some true = refl
-    none-or-some false = omega arith
-
 cut-to-limit : (limit c : ℕ) → 0 < limit → cutToLimit limit 0 c ≤ limit
 unfolding cutToLimit
 cut-to-limit limit c h = rw (ne-eqb limit 0 (λ z. omega arith)) (omega arith)
@@ -49,7 +42,7 @@ module _ (t : Treaty) where
   taken-from : (taken : ℕ) (xs : List Loss)
       → total (cessionsFrom taken t xs) ≡ cutToLimit (t .limit) taken (unlimitedOf t xs)
   unfolding cededOfLoss
-  taken-from taken [] = cut-zero (t .limit) taken
+  taken-from taken [] = omega (arith, cut-le (t .limit) taken 0)
   taken-from taken (x ∷ xs) =
       let c = cededOf t (x .maximum) (x .amount) in
       rw (taken-from (taken + cutToLimit (t .limit) taken c) xs)
