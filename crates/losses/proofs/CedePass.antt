@@ -12,7 +12,6 @@ use mir.Syntax.{w64}
 use mir.Val.{Fits}
 use Rattle.lists.specs.Sums.{total}
 use Rattle.lists.specs.Each.{Each}
-use Rattle.lists.proofs.Sums.{sum-append}
 use Rattle.lists.proofs.Each.{each-of, each-at}
 use Rattle.treaty.specs.declared.Treaty.{Treaty}
 use Rattle.treaty.specs.declared.Loss.{Loss}
@@ -69,8 +68,8 @@ module _ (ts : List Treaty) (xs : List Loss) (l₀ cs₀ : List ℕ) where
   )
 
 -- The same of the first i of k losses, for whichever treaties the places ps hold, with what keeps the sums small. What
--- each treaty took is in `us`, by number.
-pub record Ceding (ps : List Treaty) (xs : List Loss) (k : ℕ) (l₀ cs₀ l cs us : List ℕ) (g c i : ℕ) : Type 0 where
+-- each treaty took is in `ks`, by number.
+pub record Ceding (ps : List Treaty) (xs : List Loss) (k : ℕ) (l₀ cs₀ l cs ks : List ℕ) (g c i : ℕ) : Type 0 where
   pub count : k ≡ length xs
   pub within : i ≤ k
   pub few : k ≤ 64
@@ -80,12 +79,12 @@ pub record Ceding (ps : List Treaty) (xs : List Loss) (k : ℕ) (l₀ cs₀ l cs
   pub room : k ≤ length l
   pub same-left : length l ≡ length l₀
   pub same-sums : length cs ≡ length cs₀
-  pub nine-taken : length us ≡ 9
+  pub nine-taken : length ks ≡ 9
   pub gross-le : g ≤ i * 10 ^ 13
   pub ceded-le : c ≤ g
   pub sums-le : Each (λ (n : ℕ). n ≤ 2 ^ 62 + i * 10 ^ 13) cs
-  pub taken-le : Each (λ (n : ℕ). n ≤ i * 10 ^ 13) us
-  pub taken : (ts : List Treaty) → ps ≡ numbered ts → (n : ℕ) → n ≤ 8 → getD us n 0 ≡ takenAt ts n (take i xs)
+  pub taken-le : Each (λ (n : ℕ). n ≤ i * 10 ^ 13) ks
+  pub taken : (ts : List Treaty) → ps ≡ numbered ts → (n : ℕ) → n ≤ 8 → getD ks n 0 ≡ takenAt ts n (take i xs)
   pub columns : (ts : List Treaty) → ps ≡ numbered ts → Columns ts xs l₀ cs₀ (take i xs) (drop i xs) i g c l cs
 
 -- before the first loss
@@ -111,8 +110,8 @@ module _ (table : ByNumber) (ns l cs : List ℕ) (nine : length (table .places) 
     columns = λ ts e. no-column ts (lossesFrom ns) l cs;
   }
 
-module _ {ps : List Treaty} {xs : List Loss} {k : ℕ} {l₀ cs₀ l cs us : List ℕ} {g c i : ℕ}
-    (h : Ceding ps xs k l₀ cs₀ l cs us g c i) where
+module _ {ps : List Treaty} {xs : List Loss} {k : ℕ} {l₀ cs₀ l cs ks : List ℕ} {g c i : ℕ}
+    (h : Ceding ps xs k l₀ cs₀ l cs ks g c i) where
   -- one loss more
   module _ (more : i < k) (x : Loss) (is : x ≡ getD xs i (lossOf 0 0 0)) where
     inside : i < length xs
@@ -124,22 +123,22 @@ module _ {ps : List Treaty} {xs : List Loss} {k : ℕ} {l₀ cs₀ l cs us : Lis
     abbrev treaty : Treaty
     treaty = getD ps (x .treaty) noTreaty
 
-    abbrev u : ℕ
-    u = getD us (x .treaty) 0
+    abbrev took : ℕ
+    took = getD ks (x .treaty) 0
 
     terms-in-range : TermsInRange treaty
     terms-in-range =
         each-at TermsInRange ps (h .terms) (x .treaty) noTreaty (omega (arith, h .nine, loss-in-range .treaty))
 
-    pub next-cedable : Cedable treaty u x
+    pub next-cedable : Cedable treaty took x
     next-cedable = record {
       terms = terms-in-range;
       loss = loss-in-range;
-      taken-below = omega (arith, h .few, at-most _ us (h .taken-le) (x .treaty));
+      taken-below = omega (arith, h .few, at-most _ ks (h .taken-le) (x .treaty));
     }
 
     -- what is ceded of it by the treaty in its place is what the table cedes
-    ceded-is : (ts : List Treaty) → ps ≡ numbered ts → cededOfLoss treaty u x ≡ cededIn ts (take i xs) x
+    ceded-is : (ts : List Treaty) → ps ≡ numbered ts → cededOfLoss treaty took x ≡ cededIn ts (take i xs) x
     ceded-is ts e =
         let n = loss-in-range .treaty in
         rw (e, at-number (withNumber ts) noTreaty (x .treaty) n, h .taken ts e (x .treaty) n)
@@ -151,19 +150,19 @@ module _ {ps : List Treaty} {xs : List Loss} {k : ℕ} {l₀ cs₀ l cs us : Lis
     one-dropped : drop i xs ≡ x ∷ drop (suc i) xs
     one-dropped = rw is (drop-cons xs i (lossOf 0 0 0) inside)
 
-    ceded-le-gross : cededOfLoss treaty u x ≤ x .amount
-    ceded-le-gross = ceded-le-amount treaty u x (terms-in-range .cede)
+    ceded-le-gross : cededOfLoss treaty took x ≤ x .amount
+    ceded-le-gross = ceded-le-amount treaty took x (terms-in-range .cede)
 
     taken-is : (ts : List Treaty) → ps ≡ numbered ts → (n : ℕ) → n ≤ 8
-        → getD (set us (x .treaty) (u + cededOfLoss treaty u x)) n 0 ≡ takenAt ts n (take (suc i) xs)
+        → getD (set ks (x .treaty) (took + cededOfLoss treaty took x)) n 0 ≡ takenAt ts n (take (suc i) xs)
     taken-is ts e n high =
-        let now = sum-at us (x .treaty) (cededOfLoss treaty u x) n (omega (arith, h .nine-taken)) in
+        let now = sum-at ks (x .treaty) (cededOfLoss treaty took x) n (omega (arith, h .nine-taken)) in
         rw (one-taken, taken-after n (take i xs) x ts, sym (h .taken ts e n high), sym (ceded-is ts e)) now
 
     pub gross-fits : Fits w64 (g + x .amount)
     gross-fits = omega (arith, h .few, h .gross-le, loss-in-range .amount)
 
-    module _ (d : Cession) (does : d ≡ cessionOf treaty u x) where
+    module _ (d : Cession) (does : d ≡ cessionOf treaty took x) where
       ceded-is-le : d .ceded ≤ 10 ^ 13
       ceded-is-le = rw does (omega (arith, loss-in-range .amount, ceded-le-gross))
 
@@ -174,7 +173,7 @@ module _ {ps : List Treaty} {xs : List Loss} {k : ℕ} {l₀ cs₀ l cs us : Lis
       sum-fits = omega (arith, h .few, at-most _ cs (h .sums-le) (x .treaty), ceded-is-le)
 
       pub one-ceded : Ceding ps xs k l₀ cs₀ (set l i (d .left))
-          (set cs (x .treaty) (getD cs (x .treaty) 0 + d .ceded)) (set us (x .treaty) (d .taken))
+          (set cs (x .treaty) (getD cs (x .treaty) 0 + d .ceded)) (set ks (x .treaty) (d .taken))
           (g + x .amount) (c + d .ceded) (i + 1)
       one-ceded = rw (does, add-one i) record {
         count = h .count;
@@ -183,18 +182,18 @@ module _ {ps : List Treaty} {xs : List Loss} {k : ℕ} {l₀ cs₀ l cs us : Lis
         losses = h .losses;
         terms = h .terms;
         nine = h .nine;
-        room = omega (arith, h .room, length-set l i (x .amount - cededOfLoss treaty u x));
+        room = omega (arith, h .room, length-set l i (x .amount - cededOfLoss treaty took x));
         same-left = length-set l i _ ∙ h .same-left;
         same-sums = length-set cs (x .treaty) _ ∙ h .same-sums;
-        nine-taken = length-set us (x .treaty) _ ∙ h .nine-taken;
+        nine-taken = length-set ks (x .treaty) _ ∙ h .nine-taken;
         gross-le = omega (arith, h .gross-le, loss-in-range .amount);
         ceded-le = omega (arith, h .ceded-le, ceded-le-gross);
         sums-le = each-sum _ _ cs (h .sums-le) (x .treaty) _ (omega (arith, loss-in-range .amount, ceded-le-gross));
-        taken-le = each-sum _ _ us (h .taken-le) (x .treaty) _ (omega (arith, loss-in-range .amount, ceded-le-gross));
+        taken-le = each-sum _ _ ks (h .taken-le) (x .treaty) _ (omega (arith, loss-in-range .amount, ceded-le-gross));
         taken = taken-is;
         columns = λ ts e. rw one-taken
             (one-column ts xs l₀ cs₀ (take i xs) x (drop (suc i) xs) i g c l cs (rw one-dropped at (h .columns ts e))
-            (cededOfLoss treaty u x) (ceded-is ts e));
+            (cededOfLoss treaty took x) (ceded-is ts e));
       }
 
   -- after the last loss

@@ -11,7 +11,7 @@ use borrow.Author.Tests.{ne-eqb, eqb-true, eq-eqb}
 use lib.Dec.{eqb}
 use Rattle.lists.specs.Sums.{sumOf, total}
 use Rattle.lists.specs.Each.{Each}
-use Rattle.lists.proofs.Sums.{sum-same, sum-append, sum-add, sum-zero}
+use Rattle.lists.proofs.Sums.{sum-same, sum-add, sum-zero}
 use Rattle.treaty.specs.declared.Treaty.{Treaty}
 use Rattle.treaty.specs.declared.Loss.{Loss}
 use Rattle.treaty.specs.Treaty.{cededOfLoss, cessionsFrom, ownLosses, cessions, takenBy}
