@@ -93,7 +93,7 @@ typedef struct cession_treaty {
     uint64_t capacity;  // quota share: the capacity, cents, 0 to 10^13; 0 means none
     uint64_t retention; // surplus: the retention, cents, 0 to 10^13
     uint64_t lines;     // surplus: the number of lines, 0 to 100
-    uint64_t limit;     // the event limit: the most that it takes of one event, cents, 0 to 10^13; 0 means none
+    uint64_t limit;     // the event limit: the most ceded to it of one event, cents, 0 to 10^13; 0 means none
 } cession_treaty;
 
 // The terms of an excess layer.

@@ -25,7 +25,7 @@ const LEAST_REACHED: usize = 20;
 const LEAST_MET: usize = 33;
 
 /// For a hundred histories, how often an event limit is met in each way.
-const LEAST_LIMITS: usize = 5;
+const LEAST_LIMITS: usize = 40;
 
 /// For a hundred histories, how many cuts are compared.
 const LEAST_CUTS: usize = 200;
@@ -105,8 +105,7 @@ impl Tally {
         let counts = BOUNDS.iter().zip(self.reached).zip(self.met);
         let counts: Vec<String> = counts.map(|((name, reached), met)| format!("{name} {reached}, {met}")).collect();
         println!("{}", counts.join("; "));
-        let counts = self.limits.counts().map(|(way, count)| format!("{way} {count}"));
-        println!("histories: event limits: {}", counts.collect::<Vec<String>>().join(", "));
+        println!("histories: {}", self.limits.shown());
     }
 
     /// What the histories should have reached and did not.
@@ -117,9 +116,8 @@ impl Tally {
             ("cuts".to_string(), self.cuts, LEAST_CUTS),
             ("histories with cessions, both recoveries and premium".to_string(), self.full, LEAST_FULL),
         ];
-        for (way, count) in self.limits.counts() {
-            counts.push((format!("event limits met, {way}"), count, LEAST_LIMITS));
-        }
+        let limits = self.limits.counts().into_iter();
+        counts.extend(limits.map(|(name, count)| (format!("event limits met: {name}"), count, LEAST_LIMITS)));
         for refusal in REFUSALS {
             let count = self.refused.get(&refusal).copied().unwrap_or(0);
             counts.push((format!("runs refused with {refusal}"), count, LEAST_RUNS));

@@ -10,12 +10,14 @@ const LARGEST_PREMIUM: u64 = 1_000_000_000_000;
 const LARGEST_DEDUCTIBLE: u64 = 1_000_000_000_000_000;
 const SHARES: [u64; 9] = [0, 1, 3_333, 5_000, 6_667, 7_200, 8_000, 9_999, 10_000];
 
-/// A table under way: its lines, its treaties, and the amounts at which its terms change the result.
+/// A table under way: its lines, its treaties, the amounts at which its terms change the result, and losses (treaty,
+/// estimated maximum loss, amount) of which just the event limit is ceded.
 #[derive(Default)]
 pub struct Table {
     pub lines: Lines,
     pub treaties: Vec<u64>,
     marks: Vec<u64>,
+    reaching: Vec<[u64; 3]>,
 }
 
 pub fn line(text: String) -> Vec<u8> {
@@ -60,9 +62,10 @@ fn quota(random: &mut Random, number: u64, scale: u64, table: &mut Table) {
     let capacity = none_or(random, capacity);
     let limit = near(random, scale);
     let limit = none_or(random, limit);
-    // The amount of which the limit is ceded.
-    let reaching = (limit * 10_000).checked_div(cede).unwrap_or(0).min(LARGEST_AMOUNT);
-    table.marks.extend([capacity, limit, reaching]);
+    if limit > 0 && cede > 0 {
+        table.reaching.push([number, 1, (limit * 10_000).div_ceil(cede).min(LARGEST_AMOUNT)]);
+    }
+    table.marks.extend([capacity, limit]);
     table.lines.push(line(format!("(quota {number} (cede {cede}) (capacity {capacity}) (event {limit}))")));
 }
 
@@ -71,6 +74,10 @@ fn surplus(random: &mut Random, number: u64, scale: u64, table: &mut Table) {
     let lines = random.pick(&[0, 1, 2, 3, 9, 100]);
     let limit = near(random, scale);
     let limit = none_or(random, limit);
+    if limit > 0 && retention > 0 && lines > 0 {
+        // Half of a loss is ceded where its estimated maximum loss is twice the retention.
+        table.reaching.push([number, (2 * retention).min(LARGEST_AMOUNT), (2 * limit).min(LARGEST_AMOUNT)]);
+    }
     table.marks.extend([retention, retention * (1 + lines), limit]);
     table.lines.push(line(format!("(surplus {number} (retain {retention}) (lines {lines}) (event {limit}))")));
 }
@@ -129,13 +136,20 @@ fn amount(random: &mut Random, scale: u64, table: &Table) -> u64 {
     mark.saturating_sub(random.pick(&[0, 1])).min(LARGEST_AMOUNT)
 }
 
-/// So many loss forms, each after a space; most under the table's treaties.
+/// The numbers of a loss, most of them under one of the table's treaties.
+fn loss(random: &mut Random, scale: u64, table: &Table) -> [u64; 3] {
+    if !table.reaching.is_empty() && random.one_in(9) {
+        return random.pick(&table.reaching);
+    }
+    let treaty = if table.treaties.is_empty() || random.one_in(4) { 0 } else { random.pick(&table.treaties) };
+    [treaty, amount(random, scale, table).max(1), amount(random, scale, table)]
+}
+
+/// So many loss forms, each after a space.
 pub fn losses(random: &mut Random, scale: u64, table: &Table, count: usize) -> String {
     let mut forms = String::new();
     for _ in 0..count {
-        let treaty = if table.treaties.is_empty() || random.one_in(4) { 0 } else { random.pick(&table.treaties) };
-        let most = amount(random, scale, table).max(1);
-        let loss = amount(random, scale, table);
+        let [treaty, most, loss] = loss(random, scale, table);
         forms += &format!(" (loss {treaty} {most} {loss})");
     }
     forms

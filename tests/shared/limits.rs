@@ -1,16 +1,22 @@
 //! How losses meet the event limits of their treaties, by the second calculation.
 
 use crate::calculation::events::{read_events, Event};
-use crate::calculation::table::Programme;
+use crate::calculation::table::{Programme, Terms};
 
-/// What the losses of accepted events can meet.
-pub const WAYS: [&str; 6] = ["below", "to the cent", "cut", "used up", "two in one event", "whole again"];
+/// A loss leaves something of the limit, reaches it exactly, is cut to what is left of it, or finds nothing left.
+const WAYS: [&str; 4] = ["below", "to the cent", "cut", "used up"];
 
-/// How often each way was met: losses that leave something of the limit, that reach it exactly, that are cut to what
-/// is left of it, and that find nothing left; events in which two treaties reach their limits; and events in which a
-/// treaty takes something after it had reached its limit in the event before.
+const KINDS: [&str; 2] = ["quota share", "surplus"];
+
+/// How often losses of each kind of treaty met their limit in each way.
 #[derive(Default)]
-pub struct Limits([usize; WAYS.len()]);
+pub struct Limits {
+    losses: [[usize; WAYS.len()]; KINDS.len()],
+    /// Events in which two treaties reach their limits.
+    two: usize,
+    /// Events in which a treaty takes something after it had reached its limit in the event before.
+    again: usize,
+}
 
 impl Limits {
     /// Counts a text that was accepted.
@@ -18,11 +24,10 @@ impl Limits {
         let mut reached = vec![false; programme.treaties.len()];
         for event in read_events(programme, 0, events).unwrap_or_default() {
             let offered = self.count_losses(programme, &event);
-            let is_again = reached.iter().zip(&offered).any(|(before, offered)| *before && *offered > 0);
+            self.again += usize::from(reached.iter().zip(&offered).any(|(before, offered)| *before && *offered > 0));
             let treaties = programme.treaties.iter().zip(&offered);
             reached = treaties.map(|(treaty, offered)| (1..=*offered).contains(&treaty.event_limit)).collect();
-            self.0[4] += usize::from(reached.iter().filter(|is_reached| **is_reached).count() > 1);
-            self.0[5] += usize::from(is_again);
+            self.two += usize::from(reached.iter().filter(|is_reached| **is_reached).count() > 1);
         }
     }
 
@@ -31,28 +36,45 @@ impl Limits {
         let mut offered = vec![0; programme.treaties.len()];
         for loss in &event.losses {
             let Some(place) = programme.treaty(loss.treaty) else { continue };
-            let (before, part) = (offered[place], programme.treaties[place].offered(loss));
+            let treaty = &programme.treaties[place];
+            let (before, part) = (offered[place], treaty.offered(loss));
             offered[place] += part;
-            let limit = programme.treaties[place].event_limit;
-            if limit > 0 && part > 0 {
-                self.0[way(limit, before, offered[place])] += 1;
+            if treaty.event_limit > 0 && part > 0 {
+                let kind = usize::from(matches!(treaty.terms, Terms::Surplus { .. }));
+                self.losses[kind][way(treaty.event_limit, before, offered[place])] += 1;
             }
         }
         offered
     }
 
-    /// Each way with its count.
-    pub fn counts(&self) -> impl Iterator<Item = (&'static str, usize)> + '_ {
-        WAYS.iter().copied().zip(self.0)
+    /// What can be met, with its count.
+    pub fn counts(&self) -> Vec<(String, usize)> {
+        let of_kind = |(kind, counts): (&&str, &[usize; WAYS.len()])| {
+            let named = |(way, count): (&&str, &usize)| (format!("{kind} {way}"), *count);
+            WAYS.iter().zip(counts).map(named).collect::<Vec<(String, usize)>>()
+        };
+        let mut counts: Vec<(String, usize)> = KINDS.iter().zip(&self.losses).flat_map(of_kind).collect();
+        counts.push(("two in one event".to_string(), self.two));
+        counts.push(("whole again".to_string(), self.again));
+        counts
+    }
+
+    /// The counts in a line.
+    pub fn shown(&self) -> String {
+        let counts = self.counts().into_iter().map(|(name, count)| format!("{name} {count}"));
+        format!("event limits: {}", counts.collect::<Vec<String>>().join(", "))
     }
 }
 
 /// The place among the ways of a loss with which the offered amounts go from one sum to another.
 fn way(limit: u64, before: u64, after: u64) -> usize {
-    match () {
-        _ if after < limit => 0,
-        _ if after == limit => 1,
-        _ if before < limit => 2,
-        _ => 3,
+    if after < limit {
+        0
+    } else if after == limit {
+        1
+    } else if before < limit {
+        2
+    } else {
+        3
     }
 }

@@ -12,6 +12,9 @@ const REFUSALS: [u64; 13] = [0, 1, 2, 3, 4, 5, 7, 9, 10, 11, 12, 13, 14];
 /// Of a hundred years, how many have cessions, recoveries of both tiers and premium.
 const LEAST_FULL_YEARS: usize = 40;
 
+/// For a hundred years, how often an event limit is met in each way.
+const LEAST_LIMITS: usize = 10;
+
 #[derive(Default)]
 pub struct Tally {
     compared: usize,
@@ -77,8 +80,7 @@ impl Tally {
         println!(", all four {}", self.all);
         let counts = misplaced_names().zip(self.misplaced).map(|(name, count)| format!("{name} {count}"));
         println!("years: out of order: {}", counts.collect::<Vec<String>>().join(", "));
-        let counts = self.limits.counts().map(|(way, count)| format!("{way} {count}"));
-        println!("years: event limits: {}", counts.collect::<Vec<String>>().join(", "));
+        println!("years: {}", self.limits.shown());
     }
 
     /// What the years should have reached and did not.
@@ -87,8 +89,9 @@ impl Tally {
         let mut missing: Vec<String> = unseen.map(|refusal| format!("no year refused with {refusal}")).collect();
         let unplaced = misplaced_names().zip(self.misplaced).filter(|(_, count)| *count == 0);
         missing.extend(unplaced.map(|(name, _)| format!("no table with a {name}")));
-        let unmet = self.limits.counts().filter(|(_, count)| *count == 0);
-        missing.extend(unmet.map(|(way, _)| format!("no event limit met: {way}")));
+        let limits = self.limits.counts().into_iter();
+        let too_few = limits.filter(|(_, count)| count * 100 < self.compared * LEAST_LIMITS);
+        missing.extend(too_few.map(|(name, count)| format!("event limits met: {name}: {count}, too few")));
         if self.all * 100 < self.compared * LEAST_FULL_YEARS {
             missing.push("too few years with cessions, recoveries of both tiers and premium".to_string());
         }

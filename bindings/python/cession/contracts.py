@@ -56,8 +56,8 @@ def _taken(kind: type, places) -> tuple:
 @dataclass(frozen=True)
 class Treaty:
     """A proportional treaty: `QUOTA_SHARE` with `cede` and `capacity`, or `SURPLUS` with `retention` and `lines`; the
-    terms of the other kind stay 0. `number` is 1 to 8, `limit` the event limit, the most that the treaty takes of one
-    event. Capacity 0 and limit 0 mean none.
+    terms of the other kind stay 0. `number` is 1 to 8, `limit` the event limit, the most ceded to it of one event.
+    Capacity 0 and limit 0 mean none.
 
     >>> Treaty(QUOTA_SHARE, number=1, cede=4000, capacity=20000)
     Treaty(kind=1, number=1, cede=4000, capacity=20000, retention=0, lines=0, limit=0)

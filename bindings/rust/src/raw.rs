@@ -37,7 +37,7 @@ pub struct Treaty {
     pub retention: u64,
     /// Surplus: the number of lines, 0 to 100.
     pub lines: u64,
-    /// The event limit: the most that the treaty takes of one event, cents, 0 to 10^13; 0 means none.
+    /// The event limit: the most ceded to it of one event, cents, 0 to 10^13; 0 means none.
     pub limit: u64,
 }
 

@@ -6,12 +6,11 @@ use Prim.Native.Nat.{ℕ, _+_, _*_, _≤_, _<_}
 use native.Mathlib.Nat.{add-zero}
 use native.Mathlib.Omega.{arith}
 use lib.ListN.{length, getD, set, length-set}
-use Rattle.lists.specs.Sums.{total}
 use Rattle.lists.specs.Each.{Each}
 use Rattle.lists.proofs.Each.{each-so}
 use Rattle.treaty.specs.declared.Treaty.{Treaty}
 use Rattle.treaty.specs.declared.Loss.{Loss}
-use Rattle.treaty.specs.Treaty.{cessions}
+use Rattle.treaty.specs.Treaty.{takenBy}
 use Rattle.treaty.specs.Losses.{cededIn}
 use Rattle.treaty.specs.Ranges.{LossInRange}
 use Rattle.treaty.proofs.Losses.{Numbered, ceded-le-loss, cededOfOwn, treaty-ceded}
@@ -44,7 +43,7 @@ module _ (ts : List Treaty) where
 pub added-at : (n : ℕ) (before : List Treaty) (t : Treaty) (after : List Treaty)
     → Numbered n (before ++ (t ∷ after)) → (cs : List ℕ) (xs : List Loss) → t .number < length cs
     → getD (cededAdded (before ++ (t ∷ after)) [] cs xs) (t .number) 0
-    ≡ getD cs (t .number) 0 + total (cessions t xs)
+    ≡ getD cs (t .number) 0 + takenBy t xs
 added-at n before t after e cs xs h =
     own-added (before ++ (t ∷ after)) t [] cs xs h
     ∙ ap (λ (m : ℕ). getD cs (t .number) 0 + m) (treaty-ceded n before t after e xs)

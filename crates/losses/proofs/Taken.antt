@@ -20,6 +20,7 @@ use Rattle.losses.specs.Register.{withNumber}
 abbrev pub takenAt : List Treaty → (n : ℕ) → List Loss → ℕ
 takenAt ts n xs = takenBy (withNumber ts n) xs
 
+-- where there is no treaty, nothing is ceded, and nothing taken
 nothing-ceded : (taken : ℕ) (x : Loss) → 0 ≡ cededOfLoss noTreaty taken x
 unfolding cededOfLoss cutToLimit cededOf
 nothing-ceded taken x = refl
@@ -31,6 +32,7 @@ nothing-taken xs = from 0 (ownLosses noTreaty xs)
     from taken [] = refl
     from taken (x ∷ xs) = rw (sym (nothing-ceded taken x), zero-add) (from (taken + 0) xs)
 
+-- what is ceded of a loss is what the treaty with its number cedes of it
 pub ceded-with : (ts : List Treaty) (earlier : List Loss) (x : Loss)
     → cededIn ts earlier x ≡ cededOfLoss (withNumber ts (x .treaty)) (takenAt ts (x .treaty) earlier) x
 unfolding cededIn
@@ -50,6 +52,7 @@ module _ (n : ℕ) (earlier : List Loss) (x : Loss) where
       takenBy t (earlier ++ (x ∷ []))
       ≡ takenBy t earlier + cond (eqb (x .treaty) n) (cededOfLoss t (takenBy t earlier) x) 0
 
+  -- so the treaty with that number, and where there is none
   taken-with : (ts : List Treaty) → OneTaken (withNumber ts n)
   taken-with [] =
       rw (

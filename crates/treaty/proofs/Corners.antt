@@ -8,7 +8,7 @@ use Rattle.treaty.specs.declared.Treaty.{Treaty}
 use Rattle.treaty.specs.declared.Loss.{Loss}
 use Rattle.treaty.specs.Treaty.{quotaOf, surplusOf, lossOf, cessions, cessionOf}
 use Rattle.treaty.specs.Treaty.{cededByQuota, cededBySurplus, cededOf, cutToLimit, cededOfLoss}
-use Rattle.treaty.specs.Losses.{cededIn, cededOfEach}
+use Rattle.treaty.specs.Losses.{cededIn, cededOfEach, leftOfEach}
 
 -- two treaties with event limits, and the losses of one event, in which the losses of each stand between the other's
 abbrev quotaShare : Treaty
@@ -84,6 +84,7 @@ pub record Corners : Type 0 where
   -- each treaty's limit is cut by what it took itself: 2,250 and 1,125 of 3,900 before the third loss of the surplus,
   -- 3,000 of 3,400 before the second of the quota share; 800 and 750 would be ceded without
   pub own-limits : cededOfEach (quotaShare ∷ surplus ∷ []) [] mixed ≡ 2250 ∷ 3000 ∷ 0 ∷ 1125 ∷ 400 ∷ 525 ∷ []
+  pub own-left : leftOfEach (quotaShare ∷ surplus ∷ []) [] mixed ≡ 750 ∷ 5000 ∷ 7000 ∷ 375 ∷ 1600 ∷ 475 ∷ []
   pub own-quota : cessions quotaShare mixed ≡ 3000 ∷ 400 ∷ []
   pub own-surplus : cessions surplus mixed ≡ 2250 ∷ 1125 ∷ 525 ∷ []
 
@@ -115,6 +116,7 @@ corners = record {
   limit-largest = refl;
   in-turn = refl;
   own-limits = refl;
+  own-left = refl;
   own-quota = refl;
   own-surplus = refl;
 }

@@ -33,6 +33,7 @@ cut-in-turn limit taken c d = none-or-some (eqb limit 0)
     none-or-some true = refl
     none-or-some false = omega arith
 
+-- cut once, at most the limit is left
 cut-to-limit : (limit c : ℕ) → 0 < limit → cutToLimit limit 0 c ≤ limit
 unfolding cutToLimit
 cut-to-limit limit c h = rw (ne-eqb limit 0 (λ z. omega arith)) (omega arith)

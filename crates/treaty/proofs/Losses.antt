@@ -14,7 +14,7 @@ use Rattle.lists.specs.Each.{Each}
 use Rattle.lists.proofs.Sums.{sum-same, sum-add, sum-zero}
 use Rattle.treaty.specs.declared.Treaty.{Treaty}
 use Rattle.treaty.specs.declared.Loss.{Loss}
-use Rattle.treaty.specs.Treaty.{cededOfLoss, cessionsFrom, ownLosses, cessions, takenBy}
+use Rattle.treaty.specs.Treaty.{cededOfLoss, cessionsFrom, ownLosses, takenBy}
 use Rattle.treaty.specs.Losses.{grossOf, cededIn, cededOfEach, leftOfEach}
 use Rattle.treaty.proofs.Cessions.{cond-le, ceded-le-amount}
 use Rattle.treaty.proofs.Own.{own-append}
@@ -116,7 +116,7 @@ module _ (n : ℕ) (ts : List Treaty) (e : Numbered n ts) where
       )
 
   -- loss by loss or treaty by treaty, the same is ceded of an event
-  pub event-ceded : (xs : List Loss) → total (cededOfEach ts [] xs) ≡ sumOf (λ (t : Treaty). total (cessions t xs)) ts
+  pub event-ceded : (xs : List Loss) → total (cededOfEach ts [] xs) ≡ sumOf (λ (t : Treaty). takenBy t xs) ts
   event-ceded xs = ceded-after [] xs
 
 -- a treaty's number is above that of each treaty before it in the table
@@ -146,7 +146,7 @@ cededOfOwn ts t earlier (x ∷ xs) =
 -- a treaty's line shows what was ceded of the losses with its number
 pub treaty-ceded : (n : ℕ) (before : List Treaty) (t : Treaty) (after : List Treaty)
     → Numbered n (before ++ (t ∷ after)) → (xs : List Loss)
-    → cededOfOwn (before ++ (t ∷ after)) t [] xs ≡ total (cessions t xs)
+    → cededOfOwn (before ++ (t ∷ after)) t [] xs ≡ takenBy t xs
 treaty-ceded n before t after e xs = from [] xs
   where
     own : (earlier : List Loss) (x : Loss) (b : Bool) → eqb (x .treaty) (t .number) ≡ b

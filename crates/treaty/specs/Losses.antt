@@ -14,8 +14,8 @@ use Rattle.treaty.specs.Treaty.{cededOfLoss, takenBy}
 abbrev pub grossOf : List Loss → ℕ
 grossOf xs = sumOf (λ (x : Loss). x .amount) xs
 
--- What is ceded of a loss after the earlier ones of its event, by the treaty with its number, which took its part of
--- those. 0 without such a treaty.
+-- What is ceded of a loss after the earlier ones of its event, by the treaty with its number, after what that treaty
+-- took of those. 0 without such a treaty.
 unfoldable pub cededIn : List Treaty → (earlier : List Loss) → Loss → ℕ
 cededIn [] earlier x = 0
 cededIn (t ∷ ts) earlier x =

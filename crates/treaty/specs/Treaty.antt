@@ -40,9 +40,9 @@ cededOf t e g =
     cond (eqb (t .kind) 1) (cededByQuota (t .cede) (t .capacity) e g)
     (cond (eqb (t .kind) 2) (cededBySurplus (t .retention) (t .lines) e g) 0)
 
--- "then cut to the limit less what the treaty took earlier in the event; a limit of 0 is still none": the limit less
--- what was taken is not below 0
-unfoldable pub cutToLimit : (limit taken ceded : ℕ) → ℕ
+-- "then cut to the limit less what the treaty took earlier in the event; a limit of 0 is still none": limit − taken,
+-- not below 0
+unfoldable pub cutToLimit : (limit taken c : ℕ) → ℕ
 cutToLimit limit taken c = cond (eqb limit 0) c (min c (limit - taken))
 
 -- what a treaty cedes of one loss that comes after it took an amount in the event

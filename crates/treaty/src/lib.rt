@@ -8,7 +8,7 @@ pub const QUOTA_SHARE: u64 = 1;
 pub const SURPLUS: u64 = 2;
 
 // A treaty: its kind, its number in the table, the terms of both kinds (those of the other kind are 0) and
-// its event limit, the most that it takes of one event's losses. Capacity 0 and limit 0 mean none.
+// its event limit, the most ceded to it of one event. Capacity 0 and limit 0 mean none.
 #[repr(C)]
 pub struct Treaty {
     pub kind: u64,

@@ -14,7 +14,7 @@ use Rattle.lists.specs.Chains.{chained}
 use Rattle.lists.proofs.Sums.{sum-same, sum-append, sum-add}
 use Rattle.treaty.specs.declared.Treaty.{Treaty}
 use Rattle.treaty.specs.declared.Loss.{Loss}
-use Rattle.treaty.specs.Treaty.{cessions}
+use Rattle.treaty.specs.Treaty.{takenBy}
 use Rattle.treaty.specs.Losses.{grossOf, cededIn, cededOfEach}
 use Rattle.treaty.proofs.Losses.{ceded-le-loss, all-ceded-and-left}
 use Rattle.layer.specs.declared.terms.Terms.{Terms}
@@ -153,5 +153,5 @@ gross-append (e ∷ es) fs =
 pub ceded-append : (ts : List Treaty) (es fs : List Event)
     → cededByAll ts (es ++ fs) ≡ cededByAll ts es + cededByAll ts fs
 ceded-append ts es fs =
-    sum-same (λ t. sum-append (λ (e : Event). total (cessions t (e .losses))) es fs) ts
+    sum-same (λ t. sum-append (λ (e : Event). takenBy t (e .losses)) es fs) ts
     ∙ sum-add (cededBy es) (cededBy fs) ts

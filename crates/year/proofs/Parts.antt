@@ -4,10 +4,10 @@ use mathlib.Core.Path.{_≡_, refl, sym, ap, ap₂, _∙_}
 use mathlib.Core.List.{List, [], _∷_, _++_, map, map-map, map-append}
 use Prim.Native.Nat.{ℕ, _+_}
 use native.Mathlib.Omega.{arith}
-use Rattle.lists.specs.Sums.{sumOf, total}
+use Rattle.lists.specs.Sums.{sumOf}
 use Rattle.lists.proofs.Sums.{sum-append}
 use Rattle.treaty.specs.declared.Treaty.{Treaty}
-use Rattle.treaty.specs.Treaty.{cessions}
+use Rattle.treaty.specs.Treaty.{takenBy}
 use Rattle.events.specs.Event.{Event}
 use Rattle.year.specs.declared.Amounts.{Amounts}
 use Rattle.year.specs.Event.{Year, eventAfter, eventAmounts, yearAfter}
@@ -44,7 +44,7 @@ module _ (es fs : List Event) where
   treaty-lines-append [] = refl
   treaty-lines-append (t ∷ ts) =
       ap₂ (λ (n : ℕ) (ls : List TreatyLine). record { number = t .number; ceded = n } ∷ ls)
-      (sum-append (λ (e : Event). total (cessions t (e .losses))) es fs) (treaty-lines-append ts)
+      (sum-append (λ (e : Event). takenBy t (e .losses)) es fs) (treaty-lines-append ts)
 
   -- and have the same numbers
   pub same-numbers : (ts : List Treaty)

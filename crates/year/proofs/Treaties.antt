@@ -13,7 +13,7 @@ use Rattle.lists.proofs.Chains.{both}
 use Rattle.lists.proofs.Each.{each-chained, each-of}
 use Rattle.lists.proofs.Bounds.{sum-le}
 use Rattle.treaty.specs.declared.Treaty.{Treaty}
-use Rattle.treaty.specs.Treaty.{cessions}
+use Rattle.treaty.specs.Treaty.{takenBy}
 use Rattle.treaty.specs.Losses.{cededOfEach}
 use Rattle.treaty.proofs.Losses.{Numbered, event-ceded}
 use Rattle.treaty.proofs.EventLimit.{event-limit}
@@ -50,10 +50,10 @@ pub events-ceded : (n : ℕ) (ts : List Treaty) → chained treatyPasses treatyN
     → sumOf (λ (f : Event). total (cededOfEach ts [] (f .losses))) es ≡ cededByAll ts es
 events-ceded n ts e es =
     sum-same (λ f. event-ceded n ts (passed-rising n ts e) (f .losses)) es
-    ∙ sum-swap (λ (f : Event) (t : Treaty). total (cessions t (f .losses))) es ts
+    ∙ sum-swap (λ (f : Event) (t : Treaty). takenBy t (f .losses)) es ts
 
 -- a treaty's line shows at most its limit for each event
 pub events-limit : (t : Treaty) → 0 < t .limit → (es : List Event) → cededBy es t ≤ length es * t .limit
 events-limit t h es =
-    sum-le (λ (f : Event). 0 < t .limit) (λ (f : Event). total (cessions t (f .losses))) (t .limit)
+    sum-le (λ (f : Event). 0 < t .limit) (λ (f : Event). takenBy t (f .losses)) (t .limit)
     (λ f k. event-limit t k (f .losses)) es (each-of (λ (f : Event). 0 < t .limit) (λ f. h) es)

@@ -1,8 +1,8 @@
 -- Statements worked by hand: two events of three losses each, under two treaties, two risk layers and two catastrophe
--- layers; and two events of one day under two treaties with different event limits.
+-- layers; and two events of one day under two treaties with different event limits, with a layer's ledger of them.
 -- Assumes nothing.
 use mathlib.Core.Path.{_≡_, refl}
-use mathlib.Core.List.{List, [], _∷_}
+use mathlib.Core.List.{List, [], _∷_, map}
 use Rattle.arith.specs.Round.{rounded}
 use Rattle.treaty.specs.declared.Treaty.{Treaty}
 use Rattle.treaty.specs.Treaty.{quotaOf, surplusOf, lossOf, cededByQuota, cededBySurplus, cededOf}
@@ -12,6 +12,7 @@ use Rattle.layer.specs.Layer.{termsOf, layerOf, placedOf, recoveredOf, premiumO
 use Rattle.events.specs.Event.{Event}
 use Rattle.year.specs.Event.{Year, subjectOf}
 use Rattle.year.specs.Statement.{Statement, statementOf}
+use Rattle.year.specs.Ledger.{Entry, firstEntry, recoveryAdded, booked}
 
 -- a quota share with an event limit, and a surplus
 abbrev treaties : List Treaty
@@ -94,3 +95,11 @@ limitedShown = record {
 pub limits-worked : statementOf limitedTreaties (record { risk = []; cat = [] }) limitedEvents ≡ limitedShown
 unfolding rounded cededByQuota cededBySurplus cededOf cutToLimit cededOfLoss cededIn subjectOf
 limits-worked = refl
+
+-- The ledger's y of each loss: 900, 2,250, 1,000 and 851, then 2,700, 7 and 500. Above an attachment of 800, up to 600
+-- of each, they bring a layer 100 + 600 + 200 + 51 + 600; without the limits it would be less.
+pub limits-booked : map (λ (e : Entry). e .losses)
+    (booked limitedTreaties (record { risk = firstEntry (termsOf 800 600 0 1 0 0 10000) ∷ []; cat = [] }) limitedEvents
+    .risk) ≡ 1551 ∷ []
+unfolding rounded cededByQuota cededBySurplus cededOf cutToLimit cededOfLoss cededIn placedOf recoveredOf recoveryAdded
+limits-booked = refl

@@ -3,12 +3,12 @@
 -- Assumes nothing.
 use mathlib.Core.List.{List, [], _∷_, _++_, map}
 use Prim.Native.Nat.{ℕ, _+_}
-use Rattle.lists.specs.Sums.{sumOf, total}
+use Rattle.lists.specs.Sums.{sumOf}
 use Rattle.text.specs.Bytes.{bytes}
 use Rattle.text.specs.Template.{filled}
 use Rattle.text.specs.Lines.{joined}
 use Rattle.treaty.specs.declared.Treaty.{Treaty}
-use Rattle.treaty.specs.Treaty.{cessions}
+use Rattle.treaty.specs.Treaty.{takenBy}
 use Rattle.layer.specs.declared.record.Layer.{Layer}
 use Rattle.layer.specs.Layer.{deductibleLeftOf, coverLeftOf, recoveredOf, premiumOf}
 use Rattle.events.specs.Event.{Event}
@@ -34,7 +34,7 @@ pub record TreatyLine : Type 0 where
 
 -- what a treaty cedes of the losses of events: in each it begins with nothing taken
 abbrev pub cededBy : List Event → Treaty → ℕ
-cededBy es t = sumOf (λ (e : Event). total (cessions t (e .losses))) es
+cededBy es t = sumOf (λ (e : Event). takenBy t (e .losses)) es
 
 -- the line of a treaty
 abbrev pub treatyLineOf : List Event → Treaty → TreatyLine
