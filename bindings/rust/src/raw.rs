@@ -7,7 +7,7 @@
 //! use cession::raw::{cession_open, cession_read, cession_run, cession_write};
 //!
 //! let table = b"(quota 1 (cede 4000) (capacity 0) (event 15000))\n";
-//! let events = b"(event 8 (loss 1 101 101))\n";
+//! let events = b"(event 8 (loss 1 50000 40000))\n";
 //! let mut buffer = [0u8; 1_000];
 //! unsafe {
 //!     let reading = cession_read(table.as_ptr(), table.len());
@@ -19,6 +19,8 @@
 //!     let answer = cession_run(reading.programme, &mut standing, text, events.len(), room, buffer.len());
 //!     assert_eq!((answer.refusal, standing.day), (0, 8));
 //! }
+//! // 40% of the loss is 16,000, cut to the event limit.
+//! assert!(buffer.starts_with(b"(event 8 (gross 40000) (ceded 15000) "));
 //! ```
 
 /// A proportional treaty: kind 1 is a quota share, 2 a surplus. The terms of the other kind are 0.
