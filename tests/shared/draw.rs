@@ -20,6 +20,15 @@ pub struct Table {
     reaching: Vec<[u64; 3]>,
 }
 
+impl Table {
+    /// Keeps a loss of which just the limit is ceded, where there is a limit and the loss is in range.
+    fn reach(&mut self, limit: u64, loss: [u64; 3]) {
+        if limit > 0 && loss.iter().all(|number| *number <= LARGEST_AMOUNT) {
+            self.reaching.push(loss);
+        }
+    }
+}
+
 pub fn line(text: String) -> Vec<u8> {
     let mut line = text.into_bytes();
     line.push(b'\n');
@@ -62,8 +71,8 @@ fn quota(random: &mut Random, number: u64, scale: u64, table: &mut Table) {
     let capacity = none_or(random, capacity);
     let limit = near(random, scale);
     let limit = none_or(random, limit);
-    if limit > 0 && cede > 0 {
-        table.reaching.push([number, 1, (limit * 10_000).div_ceil(cede).min(LARGEST_AMOUNT)]);
+    if cede > 0 {
+        table.reach(limit, [number, 1, (limit * 10_000).div_ceil(cede)]);
     }
     table.marks.extend([capacity, limit]);
     table.lines.push(line(format!("(quota {number} (cede {cede}) (capacity {capacity}) (event {limit}))")));
@@ -74,9 +83,9 @@ fn surplus(random: &mut Random, number: u64, scale: u64, table: &mut Table) {
     let lines = random.pick(&[0, 1, 2, 3, 9, 100]);
     let limit = near(random, scale);
     let limit = none_or(random, limit);
-    if limit > 0 && retention > 0 && lines > 0 {
+    if retention > 0 && lines > 0 {
         // Half of a loss is ceded where its estimated maximum loss is twice the retention.
-        table.reaching.push([number, (2 * retention).min(LARGEST_AMOUNT), (2 * limit).min(LARGEST_AMOUNT)]);
+        table.reach(limit, [number, 2 * retention, 2 * limit]);
     }
     table.marks.extend([retention, retention * (1 + lines), limit]);
     table.lines.push(line(format!("(surplus {number} (retain {retention}) (lines {lines}) (event {limit}))")));

@@ -33,10 +33,20 @@ cut-in-turn limit taken c d = none-or-some (eqb limit 0)
     none-or-some true = refl
     none-or-some false = omega arith
 
--- cut once, at most the limit is left
+-- what is cut to a limit is at most the limit
 cut-to-limit : (limit c : ℕ) → 0 < limit → cutToLimit limit 0 c ≤ limit
 unfolding cutToLimit
 cut-to-limit limit c h = rw (ne-eqb limit 0 (λ z. omega arith)) (omega arith)
+
+-- once the limit is reached nothing is left of it, whether an amount counts before or after its own cut
+cut-after-cut : (limit c d : ℕ) → cutToLimit limit (cutToLimit limit 0 c) d ≡ cutToLimit limit c d
+unfolding cutToLimit
+cut-after-cut limit c d = none-or-some (eqb limit 0)
+  where
+    none-or-some : (b : Bool)
+        → cond b d (min d (limit - cond b c (min c (limit - 0)))) ≡ cond b d (min d (limit - c))
+    none-or-some true = refl
+    none-or-some false = omega arith
 
 module _ (t : Treaty) where
   -- losses in turn, after an amount taken
@@ -61,3 +71,11 @@ module _ (t : Treaty) where
   pub event-limit-own : (n : ℕ) (before after : List Treaty) → Numbered n (before ++ (t ∷ after)) → 0 < t .limit
       → (xs : List Loss) → cededOfOwn (before ++ (t ∷ after)) t [] xs ≤ t .limit
   event-limit-own n before after e h xs = rw (treaty-ceded n before t after e xs) (event-limit h xs)
+
+  -- what is ceded of a loss does not depend on whether the treaty's earlier losses count before or after the cut
+  pub counted-either-way : (earlier : List Loss) (x : Loss)
+      → cededOfLoss t (takenBy t earlier) x ≡ cededOfLoss t (unlimitedOf t (ownLosses t earlier)) x
+  unfolding cededOfLoss
+  counted-either-way earlier x =
+      rw (event-taken earlier)
+      (cut-after-cut (t .limit) (unlimitedOf t (ownLosses t earlier)) (cededOf t (x .maximum) (x .amount)))
