@@ -26,7 +26,7 @@ fn in_narrow(o: &Operands) -> bool {
 
 #[inline(never)]
 extern "C" fn rust(a: u64, b: u64, d: u64) -> u64 {
-    (a as u128 * b as u128 / d as u128) as u64
+    ((a as u128 * b as u128 + d as u128 / 2) / d as u128) as u64
 }
 
 impl Random {
@@ -80,13 +80,13 @@ fn wide_corners() -> Vec<Operands> {
     let mut divisors: Vec<u64> = (0..57).flat_map(|k| [1 << k, (1u64 << k) + 1, (2u64 << k) - 1]).collect();
     divisors.retain(|&d| d < 1 << 57);
     let amounts = [0, 1, 2, 10_000, MONEY - 1, MONEY, (1 << 45) - 1, 1 << 45, (1 << 46) - 1];
-    corners(&amounts, &divisors, |d| vec![0, 1, d - 1, d, d + 1, 40 * d, 64 * d - 1, 64 * d])
+    corners(&amounts, &divisors, |d| vec![0, 1, d / 2, d - d / 2, d - 1, d, d + 1, 40 * d, 64 * d - 1, 64 * d])
 }
 
 fn narrow_corners() -> Vec<Operands> {
     let amounts = [0, 1, MONEY, 21 * MONEY, (1 << 48) - 1];
     let divisors = [1, 2, 9_999, 10_000, 1 << 32, (1 << 63) - 1];
-    corners(&amounts, &divisors, |_| vec![0, 1, 3_333, 9_999, 10_000, (1 << 15) - 1])
+    corners(&amounts, &divisors, |_| vec![0, 1, 3_333, 4_999, 5_000, 5_001, 9_999, 10_000, (1 << 15) - 1])
 }
 
 fn compare(ours: Function, operands: &[Operands], allowed: fn(&Operands) -> bool) -> usize {

@@ -1,6 +1,6 @@
 //! Excess layers: what is brought to them, recovered and charged.
 
-use super::programme::{part, MOST_LAYERS, WHOLE};
+use super::programme::{basis_points, part, MOST_LAYERS, WHOLE};
 use crate::calculation::table;
 
 /// A layer's terms. `back` is its limit times its reinstatements, `price` rate times premium, and `divisor` the limit
@@ -50,8 +50,8 @@ impl Layer {
         if used == 0 {
             return Paid::default();
         }
-        let reinstated = used.min(self.back) * self.placed / WHOLE;
-        Paid { recovered: used * self.placed / WHOLE, premium: part(reinstated, self.price, self.divisor) }
+        let reinstated = basis_points(used.min(self.back), self.placed);
+        Paid { recovered: basis_points(used, self.placed), premium: part(reinstated, self.price, self.divisor) }
     }
 
     fn figures(&self, account: &Account) -> Figures {

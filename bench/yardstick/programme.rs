@@ -49,10 +49,21 @@ impl Programme {
     }
 }
 
-/// The share of an amount, rounded down after the whole product. Most products fit into 64 bits, every quotient does.
+/// The share of an amount to the nearest cent, halves up, after the whole product. Most products fit into 64 bits, every
+/// quotient does.
 pub fn part(amount: u64, share: u64, whole: u64) -> u64 {
     match amount.checked_mul(share) {
-        Some(product) => product / whole,
-        None => (u128::from(amount) * u128::from(share) / u128::from(whole)) as u64,
+        Some(product) => product / whole + u64::from(product % whole >= whole.div_ceil(2)),
+        None => wide_part(amount, share, whole),
     }
+}
+
+#[inline(never)]
+fn wide_part(amount: u64, share: u64, whole: u64) -> u64 {
+    ((u128::from(amount) * u128::from(share) + u128::from(whole / 2)) / u128::from(whole)) as u64
+}
+
+/// The same for a share in basis points, where the product always fits.
+pub fn basis_points(amount: u64, share: u64) -> u64 {
+    (amount * share + WHOLE / 2) / WHOLE
 }

@@ -1,6 +1,6 @@
 //! Proportional treaties: what is ceded of a loss.
 
-use super::programme::{part, WHOLE};
+use super::programme::{basis_points, part, WHOLE};
 use super::reader::Loss;
 use crate::calculation::table;
 
@@ -50,7 +50,7 @@ impl Treaty {
         let Loss { amount, maximum, .. } = *loss;
         let unlimited = match self.terms {
             Terms::None => 0,
-            Terms::Quota { cede, capacity, .. } if maximum <= capacity => amount * cede / WHOLE,
+            Terms::Quota { cede, capacity, .. } if maximum <= capacity => basis_points(amount, cede),
             Terms::Quota { share, .. } => part(amount, share, WHOLE * maximum),
             Terms::Surplus { retention, .. } if maximum <= retention => 0,
             Terms::Surplus { most, end, .. } if maximum > end => part(amount, most, maximum),

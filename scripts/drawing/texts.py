@@ -198,13 +198,14 @@ def treaty_in(rest, number, terms):
 
 
 def layer_in(rest, band, place):
-    """A layer whose figures can be those of its band: what it has recovered is the placed share of the cover gone."""
+    """A layer whose figures can be those of its band: what it has recovered is the placed share of the cover gone, to
+    the nearest cent."""
     name = "%s %d" % (band.tier, place)
     found, *figures = rest.expect(YEAR[band.tier], "that of layer " + name)
     layer = Layer(band, place, *figures)
     used = band.limit * (band.reinstatements + 1) - layer.cover
     fits = layer.deductible <= band.deductible and used >= 0 and (used == 0 or layer.deductible == 0)
-    if found != place or not fits or layer.recovered != used * band.placed // 10000:
+    if found != place or not fits or layer.recovered != (used * band.placed + 5000) // 10000:
         raise Fault("the statement does not fit the table at layer " + name)
     return layer
 

@@ -30,11 +30,11 @@ fn equal(name: &str, found: u64, expected: u64) -> Result<(), String> {
     Err(format!("of the whole history, {name}: found {found}, expected {expected}"))
 }
 
-/// Document 01, Layers: used × s / 10,000 of a sum of losses.
+/// Document 01, Layers: used × s / 10,000 of a sum of losses; document 02, Q-8: to the nearest cent, halves up.
 fn recovered(layer: &Layer, sum: u128) -> u64 {
     let (deductible, cap) = (u128::from(layer.deductible), u128::from(layer.cap()));
     let used = sum.clamp(deductible, cap) - deductible;
-    (used * u128::from(layer.placed) / 10_000) as u64
+    ((used * u128::from(layer.placed) + 5_000) / 10_000) as u64
 }
 
 impl Accepted {

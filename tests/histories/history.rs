@@ -111,6 +111,8 @@ impl History {
         } else if answer.refusal == 0 {
             tally.count_bounds(&ledger, &self.ledger);
             tally.limits.count(&self.ledger.programme, &run.events);
+            let statement = found.room.text(answer.number);
+            tally.roundings.count(&self.ledger.programme, &run.events, statement);
             self.take_in(&run, &lent, &found, tally)?;
         }
         Ok(())

@@ -23,6 +23,8 @@ mod random;
 #[path = "../../bindings/rust/src/raw.rs"]
 mod raw;
 mod records;
+#[path = "../shared/roundings.rs"]
+mod roundings;
 mod runs;
 #[path = "../shared/show.rs"]
 mod show;

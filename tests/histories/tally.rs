@@ -3,6 +3,7 @@
 use crate::aim::bounds;
 use crate::ledger::Ledger;
 use crate::limits::Limits;
+use crate::roundings::Roundings;
 use crate::raw::{Answer, Programme};
 use crate::runs::Run;
 use crate::totals::has_all;
@@ -50,6 +51,7 @@ pub struct Tally {
     reached: ByBound,
     met: ByBound,
     pub limits: Limits,
+    pub roundings: Roundings,
     /// Of the history under way.
     reaches: [bool; 3],
     meets: [bool; 3],
@@ -106,6 +108,7 @@ impl Tally {
         let counts: Vec<String> = counts.map(|((name, reached), met)| format!("{name} {reached}, {met}")).collect();
         println!("{}", counts.join("; "));
         println!("histories: {}", self.limits.shown());
+        println!("histories: {}", self.roundings.shown());
     }
 
     /// What the histories should have reached and did not.

@@ -1,5 +1,5 @@
-//! The checked figures of document 01, C4 as document 02 has it, typed from the papers, put to the second calculation.
-//! Says what is wrong and ends with status 1 when a figure differs.
+//! The checked figures of document 01, C4 and L2 as document 02 has them, typed from the papers, and figures by hand, put
+//! to the second calculation. Says what is wrong and ends with status 1 when a figure differs.
 
 mod calculation;
 mod printed;
@@ -20,6 +20,25 @@ const SIDNEY_STATEMENT: &str = "\
 (layer cat 2 (deductible 0) (cover 150000000) (recovered 120000000) (premium 30000000))
 (layer cat 3 (deductible 0) (cover 200000000) (recovered 72000000) (premium 14400000))
 (total (gross 350000000) (ceded 0) (risk 0) (cat 192000000) (net 158000000) (premium 44400000))
+";
+
+/// The cession of 101 is 50.5, so the layers' subject is 250, and they recover 15.5, 10.9989 and 26.6437 of it.
+const UPWARD_TABLE: &str = "\
+(quota 7 (cede 5000) (capacity 0) (event 0))
+(cat (band 100 31) (deduct 0) (back 1 5000 10) (placed 5000))
+(cat (band 150 33) (deduct 0) (back 1 10000 50) (placed 3333))
+(cat (band 200 37) (deduct 0) (back 2 7500 37) (placed 7201))
+";
+
+const UPWARD_EVENT: &str = "(event 77 (loss 7 1 101) (loss 0 1 200))\n";
+
+const UPWARD_STATEMENT: &str = "\
+(event 77 (gross 301) (ceded 51) (risk 0) (cat 54) (net 196) (premium 40))
+(treaty 7 (ceded 51))
+(layer cat 1 (deductible 0) (cover 31) (recovered 16) (premium 3))
+(layer cat 2 (deductible 0) (cover 33) (recovered 11) (premium 17))
+(layer cat 3 (deductible 0) (cover 74) (recovered 27) (premium 20))
+(total (gross 301) (ceded 51) (risk 0) (cat 54) (net 196) (premium 40))
 ";
 
 struct Checks {
@@ -102,7 +121,7 @@ fn layers(checks: &mut Checks) {
     let attached = "(risk (band 50 100) (deduct 0) (back 0 0 0) (placed 10000))\n";
     checks.equal("L1", from_layer(attached, &[50, 51], "risk"), vec![0, 1]);
     let half = "(risk (band 0 100) (deduct 0) (back 0 0 0) (placed 5000))\n";
-    checks.equal("L2", from_layer(half, &[1, 1], "risk"), vec![0, 1]);
+    checks.equal("L2", from_layer(half, &[1, 1], "risk"), vec![1, 0]);
     let reinstated = "(risk (band 0 100) (deduct 0) (back 1 10000 1000) (placed 10000))\n";
     checks.equal("L3", from_layer(reinstated, &[100, 50, 50], "premium"), vec![1_000, 0, 0]);
     let deducted = "(risk (band 500000 500000) (deduct 1000000) (back 1 0 0) (placed 10000))\n";
@@ -110,6 +129,27 @@ fn layers(checks: &mut Checks) {
     checks.equal("L4", from_layer(deducted, &losses, "risk"), vec![0, 0, 250_000, 0, 500_000]);
     let sidney = program(SIDNEY_TABLE, "(event 230 (loss 0 350000000 350000000))\n");
     checks.equal("H1", sidney.as_str(), SIDNEY_STATEMENT);
+}
+
+/// Just below half a cent, a half and just above it, by each formula; then recoveries in turn, and several at once.
+fn nearest_cents(checks: &mut Checks) {
+    let quota = "(quota 1 (cede 3333) (capacity 0) (event 0))\n";
+    checks.equal("quota halves", ceded(quota, &[(1, 5_003), (1, 5_000), (1, 4_997)]), vec![1_667, 1_667, 1_666]);
+    let capacity = "(quota 1 (cede 7201) (capacity 3) (event 0))\n";
+    let losses = [(4, 35_733), (4, 20_000), (4, 4_267)];
+    checks.equal("capacity halves", ceded(capacity, &losses), vec![19_298, 10_802, 2_305]);
+    let surplus = "(surplus 1 (retain 3) (lines 3) (event 0))\n";
+    checks.equal("surplus halves", ceded(surplus, &[(8, 7), (8, 4), (8, 9)]), vec![4, 3, 6]);
+    checks.equal("halves above the lines", ceded(surplus, &[(14, 10), (14, 7), (14, 4)]), vec![6, 5, 3]);
+    let alone = |table: &str, subjects: [u64; 3], name: &str| -> Vec<u64> {
+        subjects.iter().flat_map(|subject| from_layer(table, &[*subject], name)).collect()
+    };
+    let placed = "(risk (band 0 6000) (deduct 0) (back 0 0 0) (placed 3333))\n";
+    checks.equal("placed halves", alone(placed, [5_003, 5_000, 4_997], "risk"), vec![1_667, 1_667, 1_666]);
+    checks.equal("five losses of 1", from_layer(placed, &[1; 5], "risk"), vec![0, 1, 0, 0, 1]);
+    let reinstated = "(risk (band 0 14) (deduct 0) (back 1 5000 18) (placed 10000))\n";
+    checks.equal("premium halves", alone(reinstated, [10, 7, 4], "premium"), vec![6, 5, 3]);
+    checks.equal("all rounded up", program(UPWARD_TABLE, UPWARD_EVENT).as_str(), UPWARD_STATEMENT);
 }
 
 fn band(attachment: u64, limit: u64) -> String {
@@ -208,6 +248,7 @@ fn main() {
     let mut checks = Checks { made: 0, failed: 0 };
     treaties(&mut checks);
     layers(&mut checks);
+    nearest_cents(&mut checks);
     refused_tables(&mut checks);
     refused_events(&mut checks);
     refused_records(&mut checks);

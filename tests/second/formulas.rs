@@ -3,6 +3,44 @@
 use super::events::Loss;
 use super::table::{Layer, Terms, Treaty, WHOLE};
 
+/// An amount before it is rounded: so many parts, of which so many make a cent.
+pub struct Exact {
+    pub parts: u128,
+    pub in_a_cent: u128,
+}
+
+impl Exact {
+    fn new(amount: u64, share: u128, whole: u64) -> Self {
+        Exact { parts: u128::from(amount) * share, in_a_cent: u128::from(whole) }
+    }
+
+    /// The whole cents in the amount, how far it is above them, and how far below the next cent.
+    fn neighbours(&self) -> (u64, u128, u128) {
+        let above = self.parts % self.in_a_cent;
+        ((self.parts / self.in_a_cent) as u64, above, self.in_a_cent - above)
+    }
+
+    /// The nearer of the two neighbouring cents; of two equally near the upper one.
+    fn nearest(&self) -> u64 {
+        let (cents, above, below) = self.neighbours();
+        if above < below {
+            cents
+        } else {
+            cents + 1
+        }
+    }
+
+    /// What is left of whole cents by another's nearest share: of two equally near neighbours the lower one.
+    fn nearest_left(&self) -> u64 {
+        let (cents, above, below) = self.neighbours();
+        if below < above {
+            cents + 1
+        } else {
+            cents
+        }
+    }
+}
+
 impl Treaty {
     /// The share of a loss that is offered to the treaty, as a fraction: numerator and denominator.
     fn offered_share(&self, maximum: u64) -> (u64, u64) {
@@ -15,10 +53,14 @@ impl Treaty {
         }
     }
 
+    pub fn exactly_offered(&self, loss: &Loss) -> Exact {
+        let (share, whole) = self.offered_share(loss.maximum);
+        Exact::new(loss.amount, u128::from(share), whole)
+    }
+
     /// What would be ceded of a loss if there were no event limit.
     pub fn offered(&self, loss: &Loss) -> u64 {
-        let (share, whole) = self.offered_share(loss.maximum);
-        (u128::from(loss.amount) * u128::from(share) / u128::from(whole)) as u64
+        self.exactly_offered(loss).nearest()
     }
 
     /// What the treaty takes where so much is offered to it in one event.
@@ -44,27 +86,31 @@ impl Layer {
         self.spent(sum).saturating_sub(self.deductible)
     }
 
-    fn at_placed_share(&self, amount: u64) -> u64 {
-        amount * self.placed / WHOLE
+    pub fn at_placed_share(&self, amount: u64) -> Exact {
+        Exact::new(amount, u128::from(self.placed), WHOLE)
     }
 
     fn recovered(&self, sum: u128) -> u64 {
-        self.at_placed_share(self.used(sum))
+        self.at_placed_share(self.used(sum)).nearest()
     }
 
-    /// What the insurer keeps of the sum: the deductible eaten, the share not placed with the remainder of its
-    /// rounding, and what passes the cap.
+    /// What the insurer keeps of the sum: the deductible eaten, the share not placed, of which half a cent goes to the
+    /// share that is, and what passes the cap.
     fn kept(&self, sum: u128) -> u128 {
         let eaten = sum.min(u128::from(self.deductible));
-        let not_placed = (self.used(sum) * (WHOLE - self.placed)).div_ceil(WHOLE);
+        let not_placed = Exact::new(self.used(sum), u128::from(WHOLE - self.placed), WHOLE).nearest_left();
         let past_cap = sum - u128::from(self.spent(sum));
         eaten + u128::from(not_placed) + past_cap
     }
 
-    fn reinstatement_premium(&self, sum: u128) -> u64 {
-        let reinstated = self.used(sum).min(self.reinstatements * self.limit);
+    pub fn exact_premium(&self, used: u64) -> Exact {
+        let reinstated = used.min(self.reinstatements * self.limit);
         let price = u128::from(self.rate) * u128::from(self.premium);
-        (u128::from(self.at_placed_share(reinstated)) * price / u128::from(WHOLE * self.limit)) as u64
+        Exact::new(self.at_placed_share(reinstated).nearest(), price, WHOLE * self.limit)
+    }
+
+    fn reinstatement_premium(&self, sum: u128) -> u64 {
+        self.exact_premium(self.used(sum)).nearest()
     }
 }
 

@@ -15,6 +15,8 @@ mod limits;
 mod printed;
 #[path = "../shared/random.rs"]
 mod random;
+#[path = "../shared/roundings.rs"]
+mod roundings;
 #[path = "../shared/show.rs"]
 mod show;
 mod table_damage;

@@ -2,6 +2,7 @@
 
 use crate::calculation::read_table;
 use crate::limits::Limits;
+use crate::roundings::Roundings;
 use crate::table_damage::{kind_of, MISPLACED};
 use crate::totals::{has_all, numbers, totals};
 use std::collections::BTreeMap;
@@ -28,6 +29,7 @@ pub struct Tally {
     premium: usize,
     all: usize,
     limits: Limits,
+    roundings: Roundings,
 }
 
 /// The pairs of kinds in words.
@@ -44,6 +46,7 @@ impl Tally {
         };
         if let Ok(programme) = read_table(table) {
             self.limits.count(&programme, events);
+            self.roundings.count(&programme, events, printed);
         }
         self.accepted += 1;
         self.ceded += usize::from(amounts[1] > 0);
@@ -81,6 +84,7 @@ impl Tally {
         let counts = misplaced_names().zip(self.misplaced).map(|(name, count)| format!("{name} {count}"));
         println!("years: out of order: {}", counts.collect::<Vec<String>>().join(", "));
         println!("years: {}", self.limits.shown());
+        println!("years: {}", self.roundings.shown());
     }
 
     /// What the years should have reached and did not.

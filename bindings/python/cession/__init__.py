@@ -2,7 +2,8 @@
 
 A `Programme` has the contracts of a treaty table, a `Standing` the year so far. A run takes an events text and gives
 the statement and the standing after it; a call that is turned down raises `Refused` and changes nothing. Amounts are
-whole cents; shares and rates are basis points, 10,000 to the whole.
+whole cents; shares and rates are basis points, 10,000 to the whole. Every division is settled to the nearest cent,
+halves up.
 
 >>> import cession
 >>> table = b"(cat (band 100000000 150000000) (deduct 0) (back 1 5000 75000000) (placed 8000))\\n"

@@ -2,7 +2,8 @@
 //!
 //! A [`Programme`] has the contracts of a treaty table, a [`Standing`] the year so far. A run takes an events text,
 //! gives the statement and moves the standing on; a call that is turned down gives a [`Refusal`] and leaves everything
-//! as it was lent. Amounts are whole cents; shares and rates are basis points, 10,000 to the whole.
+//! as it was lent. Amounts are whole cents; shares and rates are basis points, 10,000 to the whole. Every division is
+//! settled to the nearest cent, halves up.
 //!
 //! ```
 //! use cession::Programme;

@@ -27,7 +27,13 @@ pair = layerOf (termsOf 10 40 0 0 0 0 3333) 0 ∷ layerOf (termsOf 50 100 0 0 0 
 abbrev three : List Layer
 three =
     layerOf (termsOf 500 700 200 2 4000 750 3333) 0 ∷ layerOf (termsOf 1200 900 150 1 8000 1000 7201) 0
-    ∷ layerOf (termsOf 2100 600 0 2 7500 700 9999) 0 ∷ []
+    ∷ layerOf (termsOf 2100 600 0 2 7500 700 9750) 0 ∷ []
+
+-- three layers of one tier that recover 15.5, 10.9989 and 26.6437 of 250
+abbrev upward : List Layer
+upward =
+    layerOf (termsOf 100 31 0 0 0 0 5000) 0 ∷ layerOf (termsOf 150 33 0 0 0 0 3333) 0
+    ∷ layerOf (termsOf 200 37 0 0 0 0 7201) 0 ∷ []
 
 -- the largest terms of the table
 abbrev largest : Terms
@@ -42,36 +48,47 @@ pub record Corners : Type 0 where
   pub in-deductible : shown (layerOf (termsOf 0 700 1000 2 5000 90 7200) 999) ≡ 1 ∷ 2100 ∷ 0 ∷ 0 ∷ []
   pub past-deductible : shown (layerOf (termsOf 0 700 1000 2 5000 90 7200) 1002) ≡ 0 ∷ 2098 ∷ 1 ∷ 0 ∷ []
   -- B is 7,200 bp of 1,400, and 1,008 × 5,000 × 90 / 7,000,000 is 64.8
-  pub at-cap : shown (layerOf (termsOf 0 700 1000 2 5000 90 7200) 3100) ≡ 0 ∷ 0 ∷ 1512 ∷ 64 ∷ []
+  pub at-cap : shown (layerOf (termsOf 0 700 1000 2 5000 90 7200) 3100) ≡ 0 ∷ 0 ∷ 1512 ∷ 65 ∷ []
   -- the last loss is cut off at the cap, and one after it recovers nothing
   pub cut-off : recoveriesOf (layerOf (termsOf 0 700 1000 2 5000 90 7200) 3000) (700 ∷ 700 ∷ []) ≡ 72 ∷ 0 ∷ []
   -- cents at 3,333 bp come with the sums: 0.6666, 1.3332, 1.9998 and 2.6664
-  pub thirds : recoveriesOf (layerOf (termsOf 0 100 0 0 0 0 3333) 0) (2 ∷ 2 ∷ 2 ∷ 2 ∷ []) ≡ 0 ∷ 1 ∷ 0 ∷ 1 ∷ []
+  pub thirds : recoveriesOf (layerOf (termsOf 0 100 0 0 0 0 3333) 0) (2 ∷ 2 ∷ 2 ∷ 2 ∷ []) ≡ 1 ∷ 0 ∷ 1 ∷ 1 ∷ []
+  -- and by losses of 1: 0.3333, 0.6666, 0.9999, 1.3332 and 1.6665
+  pub thirds-of-1 : recoveriesOf (layerOf (termsOf 0 100 0 0 0 0 3333) 0) (1 ∷ 1 ∷ 1 ∷ 1 ∷ 1 ∷ [])
+      ≡ 0 ∷ 1 ∷ 0 ∷ 0 ∷ 1 ∷ []
+  -- one below half a cent, a half and one above it: 1,667.4999, 1,666.5 and 1,665.5001
+  pub placed-halves : map (recoveredOf (termsOf 0 6000 0 0 0 0 3333)) (5003 ∷ 5000 ∷ 4997 ∷ [])
+      ≡ 1667 ∷ 1667 ∷ 1666 ∷ []
   -- no reinstatement, no premium; nothing placed, nothing recovered
   pub no-reinstatement : premiumOf (termsOf 0 100 0 0 10000 1000 10000) 100 ≡ 0
   pub nothing-placed : shown (layerOf (termsOf 0 100 0 1 10000 1000 0) 150) ≡ 0 ∷ 50 ∷ 0 ∷ 0 ∷ []
-  -- the premium's B is rounded first: 3,333 bp of 5 is 1, and 1 × 5,000 × 100 / 70,000 is 7.14
-  pub premium-of-placed : premiumOf (termsOf 0 7 0 1 5000 100 3333) 5 ≡ 7
-  -- and nothing is divided before the last product: 7,201 bp of 205 and of 212 are 147 and 152, of which 169 / 19 are
-  -- 1307.53 and 1352
-  pub premium-divided-last : map (premiumOf (termsOf 60 190 35 2 13000 1300 7201)) (240 ∷ 247 ∷ []) ≡ 1307 ∷ 1352 ∷ []
-  -- Premiums of losses in turn: used is 154, 872 and 1,828, reinstated 154, 872 and 1,300, B 110, 627 and 936, and
-  -- 12 / 13 of it 101.54, 578.77 and 864.
+  -- the premium's B is rounded first: 3,333 bp of 5 and of 4 are 2 and 1, and × 5,000 × 100 / 70,000 14.29 and 7.14
+  pub premium-of-placed : map (premiumOf (termsOf 0 7 0 1 5000 100 3333)) (5 ∷ 4 ∷ []) ≡ 14 ∷ 7 ∷ []
+  -- and nothing is divided before the last product: 7,201 bp of 205 and of 212 are 148 and 153, of which 169 / 19 are
+  -- 1316.42 and 1360.89
+  pub premium-divided-last : map (premiumOf (termsOf 60 190 35 2 13000 1300 7201)) (240 ∷ 247 ∷ []) ≡ 1316 ∷ 1361 ∷ []
+  -- one below half a cent, a half and one above it: 9 / 14 of 10, 7 and 4 are 6.43, 4.5 and 2.57
+  pub premium-halves : map (premiumOf (termsOf 0 14 0 1 5000 18 10000)) (10 ∷ 7 ∷ 4 ∷ []) ≡ 6 ∷ 5 ∷ 3 ∷ []
+  -- Premiums of losses in turn: used is 154, 872 and 1,828, reinstated 154, 872 and 1,300, B 111, 628 and 936, and
+  -- 12 / 13 of it 102.46, 579.69 and 864.
   pub charged-in-turn : chargesOf (layerOf (termsOf 800 1300 250 1 8000 1500 7201) 0) (404 ∷ 718 ∷ 956 ∷ [])
-      ≡ 101 ∷ 477 ∷ 286 ∷ []
-  -- Premiums of amounts in turn through a tier. After the first the layers have charged 71, 198 and 0; after the
-  -- second 171, 576 and 480; after the third 199, 576 and 727.
+      ≡ 102 ∷ 478 ∷ 284 ∷ []
+  -- Premiums of amounts in turn through a tier. After the first the layers have charged 72, 198 and 0; after the
+  -- second 171, 576 and 469; after the third 200, 576 and 710.
   pub charged-by-tier : map (λ (xs : List ℕ). chargesThrough xs three)
       ((1660 ∷ []) ∷ (1660 ∷ 2650 ∷ []) ∷ (1660 ∷ 2650 ∷ 2382 ∷ []) ∷ [])
-      ≡ 269 ∷ 1227 ∷ 1502 ∷ []
-  -- Recoveries of the same amounts, and what they leave. After the first the layers have recovered 166, 223 and 0;
-  -- after the second 399, 871 and 549; after the third 633, 1,296 and 831.
+      ≡ 270 ∷ 1216 ∷ 1486 ∷ []
+  -- Recoveries of the same amounts, and what they leave. After the first the layers have recovered 167, 223 and 0;
+  -- after the second 400, 871 and 536; after the third 633, 1,296 and 811.
   pub recovered-by-tier : map (λ (xs : List ℕ). recoveriesThrough xs three)
       ((1660 ∷ []) ∷ (1660 ∷ 2650 ∷ []) ∷ (1660 ∷ 2650 ∷ 2382 ∷ []) ∷ [])
-      ≡ 389 ∷ 1819 ∷ 2760 ∷ []
+      ≡ 390 ∷ 1807 ∷ 2740 ∷ []
   pub left-by-tier : map (λ (xs : List ℕ). leftThrough xs three)
       ((1660 ∷ []) ∷ (1660 ∷ 2650 ∷ []) ∷ (1660 ∷ 2650 ∷ 2382 ∷ []) ∷ [])
-      ≡ 1271 ∷ 2491 ∷ 3932 ∷ []
+      ≡ 1270 ∷ 2503 ∷ 3952 ∷ []
+  -- three recoveries that are all rounded up, 16, 11 and 27: what is left of 250 is exact
+  pub upward-recovered : recoveriesBy 250 upward ≡ 54
+  pub upward-left : leftThrough (250 ∷ []) upward ≡ 196
   -- every term at its largest, at the cap
   pub most : shown (layerOf largest 1210000000000000) ≡ 0 ∷ 0 ∷ 210000000000000 ∷ 40000000000000 ∷ []
   -- one subject of 120 to bands 10 40 and 50 100: both look at all of it; 3,333 bp of 40 is 13, 7,200 bp of 70 is 50
@@ -94,14 +111,19 @@ corners = record {
   at-cap = refl;
   cut-off = refl;
   thirds = refl;
+  thirds-of-1 = refl;
+  placed-halves = refl;
   no-reinstatement = refl;
   nothing-placed = refl;
   premium-of-placed = refl;
   premium-divided-last = refl;
+  premium-halves = refl;
   charged-in-turn = refl;
   charged-by-tier = refl;
   recovered-by-tier = refl;
   left-by-tier = refl;
+  upward-recovered = refl;
+  upward-left = refl;
   most = refl;
   one-subject = refl;
   one-subject-recovered = refl;

@@ -1,5 +1,5 @@
-// The checked figures of document 01, and those of document 02 on event limits, computed by the code: a line each,
-// held to the stored output.
+// The checked figures of document 01, and those of document 02 on event limits and the nearest cent, computed by the
+// code: a line each, held to the stored output.
 ghost use mathlib.Core.Path.{_≡_};
 ghost use Prim.Native.Nat.{_+_, _^_, _≤_};
 ghost use Rattle.treaty.specs.Ranges.{TermsInRange, LossInRange};
@@ -30,15 +30,14 @@ fn line(name: &[u8], cents: u64) {
     end_line();
 }
 
-// A quota share of 4,000 bp.
-fn quota(capacity: u64, limit: u64) -> Treaty
-    requires { ⌜ (capacity ≤ 10 ^ 13) × (limit ≤ 10 ^ 13) ⌝ }
+fn quota(cede: u64, capacity: u64, limit: u64) -> Treaty
+    requires { ⌜ (cede ≤ 10000) × (capacity ≤ 10 ^ 13) × (limit ≤ 10 ^ 13) ⌝ }
     ensures { λ r. ⌜ TermsInRange r ⌝ }
 {
     Treaty {
         kind: treaty::QUOTA_SHARE,
         number: 1,
-        cede: 4000,
+        cede,
         capacity,
         retention: 0,
         lines: 0,
@@ -106,26 +105,27 @@ fn in_turn(name: &[u8], treaty: Treaty, first: Loss, second: Loss, third: Loss)
 }
 
 fn quota_figures() {
-    alone(b"C1", quota(0, 0), loss(101, 101));
-    alone(b"C2", quota(20000, 0), loss(25000, 10000));
-    alone(b"C3", quota(20000, 0), loss(20000, 10000));
+    alone(b"C1", quota(4000, 0, 0), loss(101, 101));
+    alone(b"half a cent", quota(5000, 0, 0), loss(101, 101));
+    alone(b"C2", quota(4000, 20000, 0), loss(25000, 10000));
+    alone(b"C3", quota(4000, 20000, 0), loss(20000, 10000));
     in_turn(
         b"C4",
-        quota(0, 15000),
+        quota(4000, 0, 15000),
         loss(10000, 10000),
         loss(10000, 10000),
         loss(10000, 10000),
     );
     in_turn(
         b"C4 with limit 5000",
-        quota(0, 5000),
+        quota(4000, 0, 5000),
         loss(10000, 10000),
         loss(10000, 10000),
         loss(10000, 10000),
     );
     in_turn(
         b"quota with limit 5000",
-        quota(0, 5000),
+        quota(4000, 0, 5000),
         loss(10000, 10000),
         loss(10000, 1000),
         loss(10000, 10000),
@@ -214,6 +214,11 @@ fn layer_figures() {
     brought(b"L1 at 50", layer(50, 100, 0, 0, 0, 0, 10000), 50);
     brought(b"L1 at 51", layer(50, 100, 0, 0, 0, 0, 10000), 51);
     recoveries(b"L2", layer(0, 100, 0, 0, 0, 0, 5000), &[1, 1]);
+    recoveries(
+        b"placed 3333",
+        layer(0, 100, 0, 0, 0, 0, 3333),
+        &[1, 1, 1, 1, 1],
+    );
     recoveries(
         b"L3 used 150",
         layer(0, 100, 0, 1, 10000, 1000, 10000),

@@ -1,6 +1,6 @@
 // Runs tried at their boundaries: a line a case, and after it the statement of an accepted run. They are held to an
-// output that is made from document 01 alone. The cases are on standard input, at most 65,536 bytes, as `list::cases`
-// takes them.
+// output that is made from documents 01 and 02 alone. The cases are on standard input, at most 65,536 bytes, as
+// `list::cases` takes them.
 use libc::STDIN_FILENO;
 
 mod case;

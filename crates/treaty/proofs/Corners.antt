@@ -25,10 +25,16 @@ mixed =
 pub record Corners : Type 0 where
   -- capacity 0 is none: 7,200 bp of 9,999 at any E
   pub capacity-none : (e : ℕ) → cessions (quotaOf 1 7200 0 0) (lossOf 1 e 9999 ∷ []) ≡ 7199 ∷ []
-  -- E just above the capacity: 10,000 × 4,000 × 20,000 / 200,010,000
-  pub capacity-passed : cessions (quotaOf 1 4000 20000 0) (lossOf 1 20001 10000 ∷ []) ≡ 3999 ∷ []
-  -- rounded once, after the whole product: 101 × 3,333 × 7 / 90,000
-  pub capacity-rounded : cessions (quotaOf 1 3333 7 0) (lossOf 1 9 101 ∷ []) ≡ 26 ∷ []
+  -- one below half a cent, a half and one above it: 1,667.4999, 1,666.5 and 1,665.5001
+  pub quota-halves : cessions (quotaOf 1 3333 0 0) (lossOf 1 1 5003 ∷ lossOf 1 1 5000 ∷ lossOf 1 1 4997 ∷ [])
+      ≡ 1667 ∷ 1667 ∷ 1666 ∷ []
+  -- E just above the capacity: 30,000 × 4,000 × 20,000 / 200,010,000
+  pub capacity-passed : cessions (quotaOf 1 4000 20000 0) (lossOf 1 20001 30000 ∷ []) ≡ 11999 ∷ []
+  -- rounded once, after the whole product: 160 and 190 × 7,201 × 7 / 90,000 are 89.61 and 106.41
+  pub capacity-rounded : cessions (quotaOf 1 7201 7 0) (lossOf 1 9 160 ∷ lossOf 1 9 190 ∷ []) ≡ 90 ∷ 106 ∷ []
+  -- one below half a cent, a half and one above it: 19,298.499975, 10,801.5 and 2,304.500025
+  pub capacity-halves : cessions (quotaOf 1 7201 3 0) (lossOf 1 4 35733 ∷ lossOf 1 4 20000 ∷ lossOf 1 4 4267 ∷ [])
+      ≡ 19298 ∷ 10802 ∷ 2305 ∷ []
   -- all and nothing ceded
   pub cede-all : cessions (quotaOf 1 10000 0 0) (lossOf 1 1 777 ∷ []) ≡ 777 ∷ []
   pub cede-none : cessions (quotaOf 1 0 0 0) (lossOf 1 1 777 ∷ []) ≡ 0 ∷ []
@@ -54,13 +60,20 @@ pub record Corners : Type 0 where
   pub limit-overrun : cessionOf (quotaOf 1 4000 0 5000) 6000 (lossOf 1 1 1000)
       ≡ record { ceded = 0; left = 1000; taken = 6000 }
   -- E equal to the retention, and one above it: 8,000 × 1 / 10,001
-  pub retained : cessions (surplusOf 1 10000 3 0) (lossOf 1 10000 8000 ∷ lossOf 1 10001 8000 ∷ []) ≡ 0 ∷ 0 ∷ []
-  -- E equal to r × (1 + n), and one above it: 8,000 × 30,000 / 40,001
-  pub upper-end : cessions (surplusOf 1 10000 3 0) (lossOf 1 40000 8000 ∷ lossOf 1 40001 8000 ∷ []) ≡ 6000 ∷ 5999 ∷ []
+  pub retained : cessions (surplusOf 1 10000 3 0) (lossOf 1 10000 8000 ∷ lossOf 1 10001 8000 ∷ []) ≡ 0 ∷ 1 ∷ []
+  -- E equal to r × (1 + n), and one above it: 90,000 × 30,000 / 40,001
+  pub upper-end : cessions (surplusOf 1 10000 3 0) (lossOf 1 40000 90000 ∷ lossOf 1 40001 90000 ∷ [])
+      ≡ 67500 ∷ 67498 ∷ []
   -- E between r × n and r × (1 + n): 7,000 × 25,000 / 35,000
   pub between : cessions (surplusOf 1 10000 3 0) (lossOf 1 35000 7000 ∷ []) ≡ 5000 ∷ []
-  -- rounded down, once, after the whole product: 102 × 5 / 7, and 102 × 3 × 2 / 11
-  pub surplus-rounded : cessions (surplusOf 1 2 3 0) (lossOf 1 7 102 ∷ lossOf 1 11 102 ∷ []) ≡ 72 ∷ 55 ∷ []
+  -- rounded once, after the whole product: 102 × 5 / 7, and 102 × 3 × 2 / 11
+  pub surplus-rounded : cessions (surplusOf 1 2 3 0) (lossOf 1 7 102 ∷ lossOf 1 11 102 ∷ []) ≡ 73 ∷ 56 ∷ []
+  -- one below half a cent, a half and one above it: 5 / 8 of 7, 4 and 9 are 4.375, 2.5 and 5.625, and 9 / 14 of 10, 7
+  -- and 4 are 6.43, 4.5 and 2.57
+  pub between-halves : cessions (surplusOf 1 3 3 0) (lossOf 1 8 7 ∷ lossOf 1 8 4 ∷ lossOf 1 8 9 ∷ [])
+      ≡ 4 ∷ 3 ∷ 6 ∷ []
+  pub above-halves : cessions (surplusOf 1 3 3 0) (lossOf 1 14 10 ∷ lossOf 1 14 7 ∷ lossOf 1 14 4 ∷ [])
+      ≡ 6 ∷ 5 ∷ 3 ∷ []
   -- retention 0 and lines 0 mean their 0
   pub retention-zero : cessions (surplusOf 1 0 3 0) (lossOf 1 50000 8000 ∷ []) ≡ 0 ∷ []
   pub lines-zero : cessions (surplusOf 1 10000 0 0) (lossOf 1 50000 8000 ∷ []) ≡ 0 ∷ []
@@ -69,7 +82,7 @@ pub record Corners : Type 0 where
       ≡ 4000 ∷ 1000 ∷ []
   -- g above E: 1,000,000 × 1 / 10,001, and 1,000,000 × 30,000 / 50,000
   pub above-maximum : cessions (surplusOf 1 10000 3 0) (lossOf 1 10001 1000000 ∷ lossOf 1 50000 1000000 ∷ [])
-      ≡ 99 ∷ 600000 ∷ []
+      ≡ 100 ∷ 600000 ∷ []
   -- E and g at their largest, cede and capacity one below: 10^13 × 9,999 × (10^13 − 1) / (10,000 × 10^13)
   pub largest : cessions (quotaOf 1 9999 9999999999999 0) (lossOf 1 10000000000000 10000000000000 ∷ [])
       ≡ 9998999999999 ∷ []
@@ -92,8 +105,10 @@ pub corners : Corners
 unfolding cededByQuota cededBySurplus cededOf cutToLimit cededOfLoss cededIn rounded
 corners = record {
   capacity-none = λ e. refl;
+  quota-halves = refl;
   capacity-passed = refl;
   capacity-rounded = refl;
+  capacity-halves = refl;
   cede-all = refl;
   cede-none = refl;
   limit-none = refl;
@@ -108,6 +123,8 @@ corners = record {
   upper-end = refl;
   between = refl;
   surplus-rounded = refl;
+  between-halves = refl;
+  above-halves = refl;
   retention-zero = refl;
   lines-zero = refl;
   others = refl;

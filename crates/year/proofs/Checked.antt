@@ -1,5 +1,5 @@
--- Document 01, Checked figures: H1, C1 to C8 and L1 to L4, C4 as document 02, Q-3 has it, as a single theorem about
--- the definitions.
+-- Document 01, Checked figures: H1, C1 to C8 and L1 to L4, C4 and L2 as document 02, Q-3 and Q-8, has them, as a
+-- single theorem about the definitions.
 -- Assumes nothing.
 use mathlib.Core.Path.{_≡_, refl}
 use mathlib.Core.List.{List, [], _∷_, _++_, map}
@@ -82,8 +82,8 @@ pub record Checked : Type 0 where
   pub C8 : cessions (surplusOf 1 10000 3 0) (lossOf 1 50000 8000 ∷ []) ≡ 4800 ∷ []
   -- attachment 50
   pub L1 : map (broughtBy (termsOf 50 100 0 0 0 0 10000)) (50 ∷ 51 ∷ []) ≡ 0 ∷ 1 ∷ []
-  -- two layer losses of 1, placed 5,000
-  pub L2 : recoveriesOf (layerOf (termsOf 0 100 0 0 0 0 5000) 0) (1 ∷ 1 ∷ []) ≡ 0 ∷ 1 ∷ []
+  -- two layer losses of 1, placed 5,000: half a cent goes up, and then 1 is recovered already
+  pub L2 : recoveriesOf (layerOf (termsOf 0 100 0 0 0 0 5000) 0) (1 ∷ 1 ∷ []) ≡ 1 ∷ 0 ∷ []
   -- used 150 and used 200, with one reinstatement of 100
   pub L3 : map (premiumOf (termsOf 0 100 0 1 10000 1000 10000)) (150 ∷ 200 ∷ []) ≡ 1000 ∷ 1000 ∷ []
   -- the five losses of source document 000

@@ -61,7 +61,7 @@ pub record Corners : Type 0 where
   pub invalid : answer overlapping fresh "" 999 ≡ told 6 0
   pub invalid-first : answer overlapping (standing (9 ∷ 9 ∷ 9 ∷ []) [] 367) "no form" 0 ≡ told 6 0
   -- 8: at the cap and above it, in both tiers; not 0 for a missing layer; the last day
-  pub at-cap : answer programme (standing (3100 ∷ []) (3000 ∷ []) 0) "" 999 ≡ told 0 224
+  pub at-cap : answer programme (standing (3100 ∷ []) (3000 ∷ []) 0) "" 999 ≡ told 0 225
   pub above-cap : answer programme (standing (3101 ∷ []) [] 0) "" 999 ≡ told 8 0
   pub above-cat : answer programme (standing [] (3001 ∷ []) 0) "" 999 ≡ told 8 0
   pub missing-risk : answer programme (standing (0 ∷ 1 ∷ []) [] 0) "" 999 ≡ told 8 0
@@ -101,7 +101,7 @@ pub record Corners : Type 0 where
       }
   pub kept-statement : bufferAfter (emptyRun 230) (replicate 230 7)
       ≡ bytes "(treaty 2 (ceded 0))\n"
-      ++ bytes "(layer risk 1 (deductible 0) (cover 1866) (recovered 377) (premium 150))\n"
+      ++ bytes "(layer risk 1 (deductible 0) (cover 1866) (recovered 378) (premium 151))\n"
       ++ bytes "(layer cat 1 (deductible 0) (cover 2433) (recovered 408) (premium 0))\n"
       ++ bytes "(total (gross 0) (ceded 0) (risk 0) (cat 0) (net 0) (premium 0))\n" ++ (7 ∷ [])
   -- a standing that is refused stays as lent

@@ -44,8 +44,8 @@ pub record Adds (p : Programme) (h : List Call) : Type 0 where
   -- the treaties' lines of each statement add up to its ceded
   pub treaties : Each (λ (t : Statement). t .total .ceded ≡ sumOf (λ (l : TreatyLine). l .ceded) (t .treaties))
       (statementsOf p h)
-  -- each layer's line in the last statement, the ledger's sum of its recoveries, and its placed share, rounded down,
-  -- of its spent amount above the deductible
+  -- each layer's line in the last statement, the ledger's sum of its recoveries, and its placed share, to the nearest
+  -- cent, of its spent amount above the deductible
   pub shown : (n : TierName)
       → lastShown n (noneShown n p) (statementsOf p h) ≡ recoveriesIn (inTier n (ledgerOfHistory p h))
   pub recovered : (n : TierName)

@@ -45,9 +45,9 @@ table =
     bytes "(quota 1 (cede 4000) (capacity 0) (event 6000))\n"
     ++ bytes "(surplus 3 (retain 1000) (lines 3) (event 0))\n"
     ++ bytes "(risk (band 500 1000) (deduct 100) (back 3 5000 800) (placed 3333))\n"
-    ++ bytes "(risk (band 1600 900) (deduct 0) (back 3 2000 700) (placed 9999))\n"
+    ++ bytes "(risk (band 1600 900) (deduct 0) (back 3 2000 700) (placed 9750))\n"
     ++ bytes "(cat (band 2000 3000) (deduct 500) (back 1 10000 600) (placed 7200))\n"
-    ++ bytes "(cat (band 6000 2500) (deduct 0) (back 1 2500 900) (placed 9999))\n"
+    ++ bytes "(cat (band 6000 2500) (deduct 0) (back 1 2500 900) (placed 9750))\n"
 
 abbrev programme : Programme
 programme = readOf table .programme
@@ -76,24 +76,24 @@ second = call "(event 31 (loss 3 9000 5003) (loss 0 400 901))\n"
 
 abbrev firstText : List ℕ
 firstText =
-    bytes "(event 20 (gross 19400) (ceded 7020) (risk 2558) (cat 4299) (net 5523) (premium 1166))\n"
-    ++ bytes "(event 20 (gross 6001) (ceded 2400) (risk 1234) (cat 264) (net 2103) (premium 288))\n"
+    bytes "(event 20 (gross 19400) (ceded 7020) (risk 2515) (cat 4238) (net 5627) (premium 1156))\n"
+    ++ bytes "(event 20 (gross 6001) (ceded 2400) (risk 1211) (cat 281) (net 2109) (premium 289))\n"
     ++ bytes "(treaty 1 (ceded 8400))\n(treaty 3 (ceded 1020))\n"
-    ++ bytes "(layer risk 1 (deductible 0) (cover 720) (recovered 1093) (premium 399))\n"
-    ++ bytes "(layer risk 2 (deductible 0) (cover 900) (recovered 2699) (premium 419))\n"
-    ++ bytes "(layer cat 1 (deductible 0) (cover 3133) (recovered 2064) (premium 412))\n"
-    ++ bytes "(layer cat 2 (deductible 0) (cover 2500) (recovered 2499) (premium 224))\n"
-    ++ bytes "(total (gross 25401) (ceded 9420) (risk 3792) (cat 4563) (net 7626) (premium 1454))\n"
+    ++ bytes "(layer risk 1 (deductible 0) (cover 720) (recovered 1093) (premium 400))\n"
+    ++ bytes "(layer risk 2 (deductible 0) (cover 900) (recovered 2633) (premium 410))\n"
+    ++ bytes "(layer cat 1 (deductible 0) (cover 3110) (recovered 2081) (premium 416))\n"
+    ++ bytes "(layer cat 2 (deductible 0) (cover 2500) (recovered 2438) (premium 219))\n"
+    ++ bytes "(total (gross 25401) (ceded 9420) (risk 3726) (cat 4519) (net 7736) (premium 1445))\n"
 
 abbrev secondText : List ℕ
 secondText =
-    bytes "(event 31 (gross 5904) (ceded 1667) (risk 1140) (cat 790) (net 2307) (premium 20))\n"
-    ++ bytes "(treaty 1 (ceded 0))\n(treaty 3 (ceded 1667))\n"
-    ++ bytes "(layer risk 1 (deductible 0) (cover 0) (recovered 1333) (premium 399))\n"
-    ++ bytes "(layer risk 2 (deductible 0) (cover 0) (recovered 3599) (premium 419))\n"
-    ++ bytes "(layer cat 1 (deductible 0) (cover 2036) (recovered 2854) (premium 432))\n"
-    ++ bytes "(layer cat 2 (deductible 0) (cover 2500) (recovered 2499) (premium 224))\n"
-    ++ bytes "(total (gross 5904) (ceded 1667) (risk 1140) (cat 790) (net 2307) (premium 20))\n"
+    bytes "(event 31 (gross 5904) (ceded 1668) (risk 1117) (cat 805) (net 2314) (premium 16))\n"
+    ++ bytes "(treaty 1 (ceded 0))\n(treaty 3 (ceded 1668))\n"
+    ++ bytes "(layer risk 1 (deductible 0) (cover 0) (recovered 1333) (premium 400))\n"
+    ++ bytes "(layer risk 2 (deductible 0) (cover 0) (recovered 3510) (premium 410))\n"
+    ++ bytes "(layer cat 1 (deductible 0) (cover 1991) (recovered 2886) (premium 432))\n"
+    ++ bytes "(layer cat 2 (deductible 0) (cover 2500) (recovered 2438) (premium 219))\n"
+    ++ bytes "(total (gross 5904) (ceded 1668) (risk 1117) (cat 805) (net 2314) (premium 16))\n"
 
 abbrev answered : (refusal number : ℕ) → List ℕ → Reply
 answered n w d = record { answer = record { refusal = n; number = w }; buffer = d }
@@ -122,8 +122,8 @@ standing r c d = record { risk = inPlaces 0 r; cat = inPlaces 0 c; day = d }
 abbrev withoutEvents : (cat1 cat2 : String) → List ℕ
 withoutEvents s u =
     bytes "(treaty 1 (ceded 0))\n(treaty 3 (ceded 0))\n"
-    ++ bytes "(layer risk 1 (deductible 0) (cover 3100) (recovered 299) (premium 119))\n"
-    ++ bytes "(layer risk 2 (deductible 0) (cover 2700) (recovered 899) (premium 139))\n"
+    ++ bytes "(layer risk 1 (deductible 0) (cover 3100) (recovered 300) (premium 120))\n"
+    ++ bytes "(layer risk 2 (deductible 0) (cover 2700) (recovered 878) (premium 137))\n"
     ++ bytes s
     ++ bytes u
     ++ bytes "(total (gross 0) (ceded 0) (risk 0) (cat 0) (net 0) (premium 0))\n"
@@ -132,18 +132,18 @@ abbrev largeText : List ℕ
 largeText =
     withoutEvents
     "(layer cat 1 (deductible 0) (cover 3500) (recovered 1800) (premium 360))\n"
-    "(layer cat 2 (deductible 0) (cover 2500) (recovered 2499) (premium 224))\n"
+    "(layer cat 2 (deductible 0) (cover 2500) (recovered 2438) (premium 219))\n"
 
 abbrev smallText : List ℕ
 smallText =
     withoutEvents
-    "(layer cat 1 (deductible 198) (cover 6000) (recovered 0) (premium 0))\n"
+    "(layer cat 1 (deductible 178) (cover 6000) (recovered 0) (premium 0))\n"
     "(layer cat 2 (deductible 0) (cover 5000) (recovered 0) (premium 0))\n"
 
 abbrev aCentMoreText : List ℕ
 aCentMoreText =
     withoutEvents
-    "(layer cat 1 (deductible 197) (cover 6000) (recovered 0) (premium 0))\n"
+    "(layer cat 1 (deductible 177) (cover 6000) (recovered 0) (premium 0))\n"
     "(layer cat 2 (deductible 0) (cover 5000) (recovered 0) (premium 0))\n"
 
 pub record Examples : Type 0 where
@@ -153,35 +153,35 @@ pub record Examples : Type 0 where
       ∷ answered 13 1 (replicate 600 7)
       ∷ answered 0 496 (secondText ++ replicate 104 7) ∷ []
   pub unmoved : standingOfHistory programme (first ∷ early ∷ [])
-      ≡ standing (3380 ∷ 2700 ∷ []) (3367 ∷ 2500 ∷ []) 20
-  pub left : standingOfHistory programme history ≡ standing (4100 ∷ 3600 ∷ []) (4464 ∷ 2500 ∷ []) 31
+      ≡ standing (3380 ∷ 2700 ∷ []) (3390 ∷ 2500 ∷ []) 20
+  pub left : standingOfHistory programme history ≡ standing (4100 ∷ 3600 ∷ []) (4509 ∷ 2500 ∷ []) 31
   pub uncut : map (λ (e : Entry). e .losses) (ledgerOfHistory programme history .risk) ≡ 4781 ∷ 3600 ∷ []
   pub cutOff : spentIn (ledgerOfHistory programme history .risk) ≡ 4100 ∷ 3600 ∷ []
-  pub recoveries : recoveriesIn (ledgerOfHistory programme history .cat) ≡ 2854 ∷ 2499 ∷ []
+  pub recoveries : recoveriesIn (ledgerOfHistory programme history .cat) ≡ 2886 ∷ 2438 ∷ []
   pub sums : summed (statementsOf programme history)
-      ≡ record { gross = 31305; ceded = 11087; risk = 4932; cat = 5353; net = 9933; premium = 1474 }
+      ≡ record { gross = 31305; ceded = 11088; risk = 4843; cat = 5324; net = 10050; premium = 1461 }
   pub gross : grossIn (eventsOfHistory programme history) ≡ 31305
-  pub ceded : cededByAll (contractsIn programme .treaties) (eventsOfHistory programme history) ≡ 11087
+  pub ceded : cededByAll (contractsIn programme .treaties) (eventsOfHistory programme history) ≡ 11088
   pub ends : endsOn programme history ≡ 31
   -- on day 0 without an event: no run, an empty text, a refused one
   pub ends-on-0 : map (endsOn programme) ([] ∷ (call "" ∷ []) ∷ (call "(event 367)\n" ∷ []) ∷ []) ≡ 0 ∷ 0 ∷ 0 ∷ []
   -- what each layer has recovered: by its line in the last statement, by the ledger's sums, from its spent amount
-  pub shown-risk : lastShown risk (0 ∷ 0 ∷ []) (statementsOf programme history) ≡ 1333 ∷ 3599 ∷ []
-  pub shown-cat : lastShown cat (0 ∷ 0 ∷ []) (statementsOf programme history) ≡ 2854 ∷ 2499 ∷ []
+  pub shown-risk : lastShown risk (0 ∷ 0 ∷ []) (statementsOf programme history) ≡ 1333 ∷ 3510 ∷ []
+  pub shown-cat : lastShown cat (0 ∷ 0 ∷ []) (statementsOf programme history) ≡ 2886 ∷ 2438 ∷ []
   pub shown-without : lastShown cat (0 ∷ 0 ∷ []) (statementsOf programme []) ≡ 0 ∷ 0 ∷ []
-  pub recoveries-risk : recoveriesIn (ledgerOfHistory programme history .risk) ≡ 1333 ∷ 3599 ∷ []
-  pub recovered-risk : recoveredIn (ledgerOfHistory programme history .risk) ≡ 1333 ∷ 3599 ∷ []
+  pub recoveries-risk : recoveriesIn (ledgerOfHistory programme history .risk) ≡ 1333 ∷ 3510 ∷ []
+  pub recovered-risk : recoveredIn (ledgerOfHistory programme history .risk) ≡ 1333 ∷ 3510 ∷ []
   -- what each tier has recovered
   pub tiers : map (λ (n : TierName). recoveriesOfTier n (summed (statementsOf programme history))) (risk ∷ cat ∷ [])
-      ≡ 4932 ∷ 5353 ∷ []
+      ≡ 4843 ∷ 5324 ∷ []
   -- the treaties' lines of both statements, added line by line
   pub treaties-added :
       lineByLine (record { number = 1; ceded = 8400 } ∷ record { number = 3; ceded = 1020 } ∷ [])
-      (record { number = 1; ceded = 0 } ∷ record { number = 3; ceded = 1667 } ∷ [])
-      ≡ record { number = 1; ceded = 8400 } ∷ record { number = 3; ceded = 2687 } ∷ []
+      (record { number = 1; ceded = 0 } ∷ record { number = 3; ceded = 1668 } ∷ [])
+      ≡ record { number = 1; ceded = 8400 } ∷ record { number = 3; ceded = 2688 } ∷ []
   -- an empty text keeps the last day
   pub kept : standingOfHistory programme (first ∷ call "" ∷ [])
-      ≡ standing (3380 ∷ 2700 ∷ []) (3367 ∷ 2500 ∷ []) 20
+      ≡ standing (3380 ∷ 2700 ∷ []) (3390 ∷ 2500 ∷ []) 20
   -- two different histories with the same spent amounts, and a later run that is answered alike
   pub same : standingOfHistory programme large ≡ standing (1000 ∷ 900 ∷ []) (3000 ∷ 2500 ∷ []) 9
   pub same-too : standingOfHistory programme larger ≡ standing (1000 ∷ 900 ∷ []) (3000 ∷ 2500 ∷ []) 9

@@ -1,5 +1,6 @@
 -- Statements worked by hand: two events of three losses each, under two treaties, two risk layers and two catastrophe
--- layers; and two events of one day under two treaties with different event limits, with a layer's ledger of them.
+-- layers; two events of one day under two treaties with different event limits, with a layer's ledger of them; and an
+-- event in which the cession and each of three recoveries is rounded up.
 -- Assumes nothing.
 use mathlib.Core.Path.{_≡_, refl}
 use mathlib.Core.List.{List, [], _∷_, map}
@@ -24,39 +25,39 @@ year = record {
   risk =
       layerOf (termsOf 500 700 200 2 4000 750 3333) 0 ∷ layerOf (termsOf 1200 900 150 2 8000 1000 7201) 0 ∷ [];
   cat =
-      layerOf (termsOf 1300 1100 250 1 6000 1450 9999) 0 ∷ layerOf (termsOf 2500 800 0 1 9000 1100 7201) 0 ∷ [];
+      layerOf (termsOf 1300 1100 250 1 6000 1450 9750) 0 ∷ layerOf (termsOf 2500 800 0 1 9000 1100 7201) 0 ∷ [];
 }
 
--- Of the first event's losses the treaties leave 1,736, 1,660 and 822, for the last one's 395 are cut to what 867
--- leave of the event limit, and the risk layers 1,293, 1,095 and 714; of the second's 2,382, 2,347 and 200, and 1,542,
--- 1,699 and 200. The catastrophe layers' subjects are 3,102 and 3,441.
+-- Of the first event's losses the treaties leave 1,735, 1,660 and 823, for the last one's 396 are cut to what 868
+-- leave of the event limit, and the risk layers 1,291, 1,096 and 715; of the second's 2,382, 2,346 and 200, and 1,541,
+-- 1,698 and 200. The catastrophe layers' subjects are 3,102 and 3,439.
 abbrev events : List Event
 events =
     record { day = 17; losses = lossOf 4 9000 2603 ∷ lossOf 0 2000 1660 ∷ lossOf 4 1500 1187 ∷ [] }
     ∷ record { day = 203; losses = lossOf 0 5000 2382 ∷ lossOf 4 6000 3519 ∷ lossOf 6 2750 611 ∷ [] } ∷ []
 
--- The premiums after each event: 199 and 541, 671 and 535; 199 and 1,152, 869 and 712.
+-- The premiums after each event: 200 and 540, 656 and 537; 200 and 1,152, 849 and 713.
 abbrev shown : Statement
 shown = record {
   events =
       record {
         day = 17;
-        amounts = record { gross = 5450; ceded = 1232; risk = 1116; cat = 1282; net = 1820; premium = 1946 };
+        amounts = record { gross = 5450; ceded = 1232; risk = 1116; cat = 1263; net = 1839; premium = 1933 };
       }
       ∷ record {
         day = 203;
-        amounts = record { gross = 6512; ceded = 1583; risk = 1488; cat = 1676; net = 1765; premium = 986 };
+        amounts = record { gross = 6512; ceded = 1584; risk = 1489; cat = 1648; net = 1791; premium = 981 };
       } ∷ [];
-  treaties = record { number = 4; ceded = 2404 } ∷ record { number = 6; ceded = 411 } ∷ [];
+  treaties = record { number = 4; ceded = 2405 } ∷ record { number = 6; ceded = 411 } ∷ [];
   layers = record {
     risk =
-        record { deductible = 0; cover = 0; recovered = 699; premium = 199 }
-        ∷ record { deductible = 0; cover = 54; recovered = 1905; premium = 1152 } ∷ [];
+        record { deductible = 0; cover = 0; recovered = 700; premium = 200 }
+        ∷ record { deductible = 0; cover = 55; recovered = 1905; premium = 1152 } ∷ [];
     cat =
-        record { deductible = 0; cover = 250; recovered = 1949; premium = 869 }
-        ∷ record { deductible = 0; cover = 198; recovered = 1009; premium = 712 } ∷ [];
+        record { deductible = 0; cover = 250; recovered = 1901; premium = 849 }
+        ∷ record { deductible = 0; cover = 198; recovered = 1010; premium = 713 } ∷ [];
   };
-  total = record { gross = 11962; ceded = 2815; risk = 2604; cat = 2958; net = 3585; premium = 2932 };
+  total = record { gross = 11962; ceded = 2816; risk = 2605; cat = 2911; net = 3630; premium = 2914 };
 }
 
 pub worked : statementOf treaties year events ≡ shown
@@ -103,3 +104,38 @@ pub limits-booked : map (λ (e : Entry). e .losses)
     .risk) ≡ 1551 ∷ []
 unfolding rounded cededByQuota cededBySurplus cededOf cutToLimit cededOfLoss cededIn placedOf recoveredOf recoveryAdded
 limits-booked = refl
+
+-- Three catastrophe layers, placed at 5,000, 3,333 and 7,201.
+abbrev threeLayers : Year
+threeLayers = record {
+  risk = [];
+  cat =
+      layerOf (termsOf 100 31 0 1 5000 10 5000) 0 ∷ layerOf (termsOf 150 33 0 1 10000 50 3333) 0
+      ∷ layerOf (termsOf 200 37 0 2 7500 37 7201) 0 ∷ [];
+}
+
+-- Of 101 the quota share takes 50.5, which is 51, so the layers' subject is 250. It brings them 31, 33 and 37, of which
+-- they recover 15.5, 10.9989 and 26.6437: 16, 11 and 27, and 54 for the event. Net is 250 less 54. Premiums are 80 / 31,
+-- 550 / 33 and 749,250 / 37,000: 2.58, 16.67 and 20.25.
+pub rounded-up : statementOf (quotaOf 7 5000 0 0 ∷ []) threeLayers
+    (record { day = 77; losses = lossOf 7 1 101 ∷ lossOf 0 1 200 ∷ [] } ∷ [])
+    ≡ record {
+      events =
+          record {
+            day = 77;
+            amounts = record { gross = 301; ceded = 51; risk = 0; cat = 54; net = 196; premium = 40 };
+          } ∷ [];
+      treaties = record { number = 7; ceded = 51 } ∷ [];
+      layers = record {
+        risk = [];
+        cat =
+            record { deductible = 0; cover = 31; recovered = 16; premium = 3 }
+            ∷ record { deductible = 0; cover = 33; recovered = 11; premium = 17 }
+            ∷ record { deductible = 0; cover = 74; recovered = 27; premium = 20 } ∷ [];
+      };
+      total = record { gross = 301; ceded = 51; risk = 0; cat = 54; net = 196; premium = 40 };
+    }
+unfolding
+    rounded cededByQuota cededBySurplus cededOf cutToLimit cededOfLoss cededIn placedOf recoveredOf premiumOf
+    recoveryOf chargeOf subjectOf
+rounded-up = refl

@@ -108,7 +108,7 @@ lastShown n without (t ∷ ts) = lastShown n (shownIn n t) ts
 abbrev pub recoveriesIn : List Entry → List ℕ
 recoveriesIn es = map (λ (e : Entry). e .recoveries) es
 
--- a layer's placed share, rounded down, of its spent amount above the deductible, by the ledger
+-- a layer's placed share, to the nearest cent, of its spent amount above the deductible, by the ledger
 abbrev pub recoveredIn : List Entry → List ℕ
 recoveredIn es = map (λ (e : Entry). recoveredOf (e .terms) (spentBy e)) es
 
