@@ -45,6 +45,8 @@ def programmes():
         "(event %d %s)" % (min(day, 366), losses(6, (1,), BIG - day, 1)) for day in range(1, 380)]
     yield "treaties", treaties()[:2], ["(event 5 (loss 1 70 61) (loss 2 70 33))", "(event 6)"]
     yield "one-risk", [layer("risk", 700, 1300)], ["(event 4 (loss 0 900 1500))"]
+    # Half of 601 is recovered: 300.5, and the half goes up.
+    yield "half", [layer("risk", 700, 1300, placed=5000)], ["(event 4 (loss 0 900 1301))"]
     # Subjects at the ends of stretches: their letters stand at zigzags.
     yield "ends", [layer("cat", 10**power, 9 * 10**power) for power in range(3, 11)], [
         "(event %d (loss 0 1 %d))" % (power, 10**power) for power in range(3, 13)]

@@ -28,6 +28,9 @@ const LEAST_MET: usize = 33;
 /// For a hundred histories, how often an event limit is met in each way.
 const LEAST_LIMITS: usize = 40;
 
+/// For a hundred histories, how often a formula comes to whole cents, below a half, to a half and above it.
+const LEAST_ROUNDINGS: usize = 1;
+
 /// For a hundred histories, how many cuts are compared.
 const LEAST_CUTS: usize = 200;
 
@@ -121,6 +124,8 @@ impl Tally {
         ];
         let limits = self.limits.counts().into_iter();
         counts.extend(limits.map(|(name, count)| (format!("event limits met: {name}"), count, LEAST_LIMITS)));
+        let roundings = self.roundings.counts();
+        counts.extend(roundings.map(|(name, count)| (format!("rounded: {name}"), count, LEAST_ROUNDINGS)));
         for refusal in REFUSALS {
             let count = self.refused.get(&refusal).copied().unwrap_or(0);
             counts.push((format!("runs refused with {refusal}"), count, LEAST_RUNS));

@@ -8,16 +8,17 @@ pub type Lines = Vec<Vec<u8>>;
 pub const LARGEST_AMOUNT: u64 = 10_000_000_000_000;
 const LARGEST_PREMIUM: u64 = 1_000_000_000_000;
 const LARGEST_DEDUCTIBLE: u64 = 1_000_000_000_000_000;
-const SHARES: [u64; 9] = [0, 1, 3_333, 5_000, 6_667, 7_200, 8_000, 9_999, 10_000];
+const SHARES: [u64; 10] = [0, 1, 3_333, 5_000, 6_667, 7_200, 7_201, 8_000, 9_999, 10_000];
 
 /// A table under way: its lines, its treaties, the amounts at which its terms change the result, and losses (treaty,
-/// estimated maximum loss, amount) of which just the event limit is ceded.
+/// estimated maximum loss, amount) of which just the event limit is ceded, or half a cent beside whole ones.
 #[derive(Default)]
 pub struct Table {
     pub lines: Lines,
     pub treaties: Vec<u64>,
     marks: Vec<u64>,
     reaching: Vec<[u64; 3]>,
+    halving: Vec<[u64; 3]>,
 }
 
 impl Table {
@@ -25,6 +26,17 @@ impl Table {
     fn reach(&mut self, limit: u64, loss: [u64; 3]) {
         if limit > 0 && loss.iter().all(|number| *number <= LARGEST_AMOUNT) {
             self.reaching.push(loss);
+        }
+    }
+
+    /// Keeps a loss of which half a cent is ceded beside whole ones, where so many parts of a whole are ceded of any, a
+    /// small amount does and the loss is in range.
+    fn halve(&mut self, number: u64, maximum: u64, parts: u64, whole: u64) {
+        let is_half = |amount: &u64| 2 * (amount * parts % whole) == whole;
+        if let Some(amount) = [1, 3, 10, 5_000, 10_000].into_iter().find(is_half) {
+            if (1..=LARGEST_AMOUNT).contains(&maximum) {
+                self.halving.push([number, maximum, amount]);
+            }
         }
     }
 }
@@ -74,6 +86,11 @@ fn quota(random: &mut Random, number: u64, scale: u64, table: &mut Table) {
     if cede > 0 {
         table.reach(limit, [number, 1, (limit * 10_000).div_ceil(cede)]);
     }
+    table.halve(number, capacity.max(1), cede, 10_000);
+    if capacity > 0 {
+        // Half of the share is ceded where the estimated maximum loss is twice the capacity.
+        table.halve(number, 2 * capacity, cede, 20_000);
+    }
     table.marks.extend([capacity, limit]);
     table.lines.push(line(format!("(quota {number} (cede {cede}) (capacity {capacity}) (event {limit}))")));
 }
@@ -86,6 +103,11 @@ fn surplus(random: &mut Random, number: u64, scale: u64, table: &mut Table) {
     if retention > 0 && lines > 0 {
         // Half of a loss is ceded where its estimated maximum loss is twice the retention.
         table.reach(limit, [number, 2 * retention, 2 * limit]);
+        table.halve(number, 2 * retention, 1, 2);
+    }
+    if lines > 1 {
+        // And where it is twice the retention times the lines.
+        table.halve(number, 2 * retention * lines, 1, 2);
     }
     table.marks.extend([retention, retention * (1 + lines), limit]);
     table.lines.push(line(format!("(surplus {number} (retain {retention}) (lines {lines}) (event {limit}))")));
@@ -147,8 +169,10 @@ fn amount(random: &mut Random, scale: u64, table: &Table) -> u64 {
 
 /// The numbers of a loss, most of them under one of the table's treaties.
 fn loss(random: &mut Random, scale: u64, table: &Table) -> [u64; 3] {
-    if !table.reaching.is_empty() && random.one_in(9) {
-        return random.pick(&table.reaching);
+    for aimed in [&table.reaching, &table.halving] {
+        if !aimed.is_empty() && random.one_in(9) {
+            return random.pick(aimed);
+        }
     }
     let treaty = if table.treaties.is_empty() || random.one_in(4) { 0 } else { random.pick(&table.treaties) };
     [treaty, amount(random, scale, table).max(1), amount(random, scale, table)]

@@ -16,6 +16,9 @@ const LEAST_FULL_YEARS: usize = 40;
 /// For a hundred years, how often an event limit is met in each way.
 const LEAST_LIMITS: usize = 10;
 
+/// For a hundred years, how often a formula comes to whole cents, below a half, to a half and above it.
+const LEAST_ROUNDINGS: usize = 1;
+
 #[derive(Default)]
 pub struct Tally {
     compared: usize,
@@ -96,6 +99,8 @@ impl Tally {
         let limits = self.limits.counts().into_iter();
         let too_few = limits.filter(|(_, count)| count * 100 < self.compared * LEAST_LIMITS);
         missing.extend(too_few.map(|(name, count)| format!("event limits met: {name}: {count}, too few")));
+        let too_few = self.roundings.counts().filter(|(_, count)| count * 100 < self.compared * LEAST_ROUNDINGS);
+        missing.extend(too_few.map(|(name, count)| format!("rounded: {name}: {count}, too few")));
         if self.all * 100 < self.compared * LEAST_FULL_YEARS {
             missing.push("too few years with cessions, recoveries of both tiers and premium".to_string());
         }
