@@ -49,8 +49,8 @@ impl Programme {
     }
 }
 
-/// The share of an amount to the nearest cent, halves up, after the whole product. Most products fit into 64 bits, every
-/// quotient does.
+/// The share of an amount to the nearest cent, halves up, after the whole product. Most products fit into 64 bits,
+/// every quotient does.
 pub fn part(amount: u64, share: u64, whole: u64) -> u64 {
     match amount.checked_mul(share) {
         Some(product) => product / whole + u64::from(product % whole >= whole.div_ceil(2)),

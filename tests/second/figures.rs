@@ -1,5 +1,5 @@
-//! The checked figures of document 01, C4 and L2 as document 02 has them, typed from the papers, and figures by hand, put
-//! to the second calculation. Says what is wrong and ends with status 1 when a figure differs.
+//! The checked figures of document 01, C4 and L2 as document 02 has them, typed from the papers, and figures by hand,
+//! put to the second calculation. Says what is wrong and ends with status 1 when a figure differs.
 
 mod calculation;
 mod printed;

@@ -14,6 +14,15 @@ halves up.
 (layer cat 1 (deductible 0) (cover 150000000) (recovered 120000000) (premium 30000000))
 >>> standing.cat[0], standing.day
 (150000000, 230)
+
+Half of 101 is 50.5:
+
+>>> half = cession.read(b"(quota 1 (cede 5000) (capacity 0) (event 0))\\n")
+>>> print(cession.run(half, cession.open_year(half), b"(event 4 (loss 1 101 101))\\n")[0].decode().splitlines()[1])
+(treaty 1 (ceded 51))
+
+A call that is turned down:
+
 >>> try:
 ...     cession.run(programme, standing, b"(event 231)\\n(event 367)\\n")
 ... except cession.EventsRefused as refused:

@@ -16,6 +16,11 @@
 //! assert_eq!(lines[1], "(layer cat 1 (deductible 0) (cover 150000000) (recovered 120000000) (premium 30000000))");
 //! assert_eq!(standing.cat()[0], 150_000_000);
 //! assert_eq!(standing.day(), 230);
+//!
+//! // Half of 101 is 50.5.
+//! let programme = Programme::read(b"(quota 1 (cede 5000) (capacity 0) (event 0))\n")?;
+//! let statement = programme.run(&mut programme.open()?, b"(event 4 (loss 1 101 101))\n")?;
+//! assert!(statement.starts_with(b"(event 4 (gross 101) (ceded 51) "));
 //! # Ok::<(), Box<dyn std::error::Error>>(())
 //! ```
 //!

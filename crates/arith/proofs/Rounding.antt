@@ -41,4 +41,6 @@ rounded-mono {m} {n} {d} hd h =
 -- whole units go through
 pub rounded-shift : (n g : ℕ) {d : ℕ} → 0 < d → rounded (n + g * d) d ≡ rounded n d + g
 rounded-shift n g {d} hd =
-    sym (rounded-is (n + g * d) (rounded n d + g) d (omega (arith, rounded-low n d)) (omega (arith, rounded-high n hd)))
+    let low = rounded-low n d in
+    let high = rounded-high n hd in
+    sym (rounded-is (n + g * d) (rounded n d + g) d (omega (arith, low)) (omega (arith, high)))

@@ -114,9 +114,9 @@ threeLayers = record {
       ∷ layerOf (termsOf 200 37 0 2 7500 37 7201) 0 ∷ [];
 }
 
--- Of 101 the quota share takes 50.5, which is 51, so the layers' subject is 250. It brings them 31, 33 and 37, of which
--- they recover 15.5, 10.9989 and 26.6437: 16, 11 and 27, and 54 for the event. Net is 250 less 54. Premiums are 80 / 31,
--- 550 / 33 and 749,250 / 37,000: 2.58, 16.67 and 20.25.
+-- Of 101 the quota share takes 50.5, which is 51, so the layers' subject is 250. It brings them 31, 33 and 37, of
+-- which they recover 15.5, 10.9989 and 26.6437: 16, 11 and 27, and 54 for the event. Net is 250 less 54. Premiums are
+-- 80 / 31, 550 / 33 and 27 × 3 / 4: 2.58, 16.67 and 20.25.
 pub rounded-up : statementOf (quotaOf 7 5000 0 0 ∷ []) threeLayers
     (record { day = 77; losses = lossOf 7 1 101 ∷ lossOf 0 1 200 ∷ [] } ∷ [])
     ≡ record {
