@@ -1,8 +1,8 @@
 // The public calls of the cession engine: reading and writing a treaty table, opening a year, running events.
 //
-// The forms of a table, of an events text and of a statement, and every formula, are document 01's; docs/GUIDE.md has
-// an example of each. Amounts are whole cents. A share or a rate is in basis points (bp), 10,000 to the whole. Every
-// division is settled to the nearest cent, halves up, after the whole product has been formed.
+// The forms of a table, of an events text and of a statement, and every formula, are those of documents 01 and 02;
+// docs/GUIDE.md has an example of each. Amounts are whole cents. A share or a rate is in basis points (bp), 10,000 to
+// the whole. Every division is settled to the nearest cent, halves up, after the whole product has been formed.
 //
 // What may be lent. No call asks anything of the values: every programme, standing, text and buffer is answered, with
 // a success or with a refusal. What a caller owes are the pointers:

@@ -3,8 +3,8 @@
 use crate::aim::bounds;
 use crate::ledger::Ledger;
 use crate::limits::Limits;
-use crate::roundings::Roundings;
 use crate::raw::{Answer, Programme};
+use crate::roundings::Roundings;
 use crate::runs::Run;
 use crate::totals::has_all;
 use std::collections::BTreeMap;

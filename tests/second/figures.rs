@@ -136,19 +136,22 @@ fn nearest_cents(checks: &mut Checks) {
     let quota = "(quota 1 (cede 3333) (capacity 0) (event 0))\n";
     checks.equal("quota halves", ceded(quota, &[(1, 5_003), (1, 5_000), (1, 4_997)]), vec![1_667, 1_667, 1_666]);
     let capacity = "(quota 1 (cede 7201) (capacity 3) (event 0))\n";
-    let losses = [(4, 35_733), (4, 20_000), (4, 4_267)];
-    checks.equal("capacity halves", ceded(capacity, &losses), vec![19_298, 10_802, 2_305]);
+    let losses = [(4, 35_733), (4, 60_000), (4, 4_267)];
+    checks.equal("capacity halves", ceded(capacity, &losses), vec![19_298, 32_405, 2_305]);
     let surplus = "(surplus 1 (retain 3) (lines 3) (event 0))\n";
     checks.equal("surplus halves", ceded(surplus, &[(8, 7), (8, 4), (8, 9)]), vec![4, 3, 6]);
     checks.equal("halves above the lines", ceded(surplus, &[(14, 10), (14, 7), (14, 4)]), vec![6, 5, 3]);
-    let alone = |table: &str, subjects: [u64; 3], name: &str| -> Vec<u64> {
+    let alone = |table: &str, subjects: &[u64], name: &str| -> Vec<u64> {
         subjects.iter().flat_map(|subject| from_layer(table, &[*subject], name)).collect()
     };
     let placed = "(risk (band 0 6000) (deduct 0) (back 0 0 0) (placed 3333))\n";
-    checks.equal("placed halves", alone(placed, [5_003, 5_000, 4_997], "risk"), vec![1_667, 1_667, 1_666]);
+    checks.equal("placed halves", alone(placed, &[5_003, 5_000, 4_997], "risk"), vec![1_667, 1_667, 1_666]);
     checks.equal("five losses of 1", from_layer(placed, &[1; 5], "risk"), vec![0, 1, 0, 0, 1]);
     let reinstated = "(risk (band 0 14) (deduct 0) (back 1 5000 18) (placed 10000))\n";
-    checks.equal("premium halves", alone(reinstated, [10, 7, 4], "premium"), vec![6, 5, 3]);
+    checks.equal("premium halves", alone(reinstated, &[10, 7, 4], "premium"), vec![6, 5, 3]);
+    let of_share = |placed: u64| format!("(risk (band 0 7) (deduct 0) (back 1 5000 100) (placed {placed}))\n");
+    checks.equal("premium of a share", alone(&of_share(3_333), &[5, 4], "premium"), vec![14, 7]);
+    checks.equal("premium of half a cent", alone(&of_share(5_000), &[3, 5], "premium"), vec![14, 21]);
     checks.equal("all rounded up", program(UPWARD_TABLE, UPWARD_EVENT).as_str(), UPWARD_STATEMENT);
 }
 

@@ -94,8 +94,8 @@ impl Layer {
         self.at_placed_share(self.used(sum)).nearest()
     }
 
-    /// What the insurer keeps of the sum: the deductible eaten, the share not placed, of which half a cent goes to the
-    /// share that is, and what passes the cap.
+    /// What the insurer keeps of the sum: the deductible eaten, the share not placed, where half a cent goes to the
+    /// placed share, and what passes the cap.
     fn kept(&self, sum: u128) -> u128 {
         let eaten = sum.min(u128::from(self.deductible));
         let not_placed = Exact::new(self.used(sum), u128::from(WHOLE - self.placed), WHOLE).nearest_left();

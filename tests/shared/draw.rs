@@ -29,8 +29,8 @@ impl Table {
         }
     }
 
-    /// Keeps a loss of which half a cent is ceded beside whole ones, where so many parts of a whole are ceded, a small
-    /// amount comes to that and the loss is in range.
+    /// Keeps a loss of which half a cent is ceded beside whole ones, where `parts` of `whole` are ceded: the first of
+    /// a few small amounts that comes to one, if the loss is in range.
     fn halve(&mut self, number: u64, maximum: u64, parts: u64, whole: u64) {
         let is_half = |amount: &u64| 2 * (amount * parts % whole) == whole;
         if let Some(amount) = [1, 3, 10, 5_000, 10_000].into_iter().find(is_half) {

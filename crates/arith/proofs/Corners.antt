@@ -25,7 +25,8 @@ pub record Corners : Type 0 where
   pub part : rounded (101 * 4000) 10000 ≡ 40
   pub exact : rounded (100 * 4000) 10000 ≡ 40
   pub half-of-101 : rounded (101 * 5000) 10000 ≡ 51
-  -- products of 100 bits by 10^17: 10^13 × (10^17 − 1), and (10^13 − 1) × 5 × 10^16, a half, with one below and above
+  -- products that pass a word, by 10^17: 10^13 × (10^17 − 1); and (10^13 − 1) × 5 × 10^16, a half, with the factor one
+  -- below and one above
   pub wide : rounded (10000000000000 * 99999999999999999) 100000000000000000 ≡ 10000000000000
   pub wide-below : rounded (9999999999999 * 49999999999999999) 100000000000000000 ≡ 4999999999999
   pub wide-half : rounded (9999999999999 * 50000000000000000) 100000000000000000 ≡ 5000000000000

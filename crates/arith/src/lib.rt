@@ -43,7 +43,7 @@ pub fn mul_div(a: u64, b: u64, d: u64) -> u64
     settle(long_division::divide_product(a, b, d), d)
 }
 
-// a * b / d where the product fits a word: with half the divisor added, the division drops less than it adds.
+// a * b / d where the product fits a word: half the divisor is added, so that dropping the rest gives the nearest.
 pub fn mul_div_word(a: u64, b: u64, d: u64) -> u64
     requires { ⌜ Narrow a b d ⌝ }
     ensures { λ r. ⌜ r ≡ rounded (a * b) d ⌝ }

@@ -64,6 +64,8 @@ pub record Corners : Type 0 where
   pub nothing-placed : shown (layerOf (termsOf 0 100 0 1 10000 1000 0) 150) ≡ 0 ∷ 50 ∷ 0 ∷ 0 ∷ []
   -- the premium's B is rounded first: 3,333 bp of 5 and of 4 are 2 and 1, and × 5,000 × 100 / 70,000 14.29 and 7.14
   pub premium-of-placed : map (premiumOf (termsOf 0 7 0 1 5000 100 3333)) (5 ∷ 4 ∷ []) ≡ 14 ∷ 7 ∷ []
+  -- a half goes up in B too: half of 3 and of 5 are 2 and 3, and 50 / 7 of these 14.29 and 21.43
+  pub premium-of-half : map (premiumOf (termsOf 0 7 0 1 5000 100 5000)) (3 ∷ 5 ∷ []) ≡ 14 ∷ 21 ∷ []
   -- and nothing is divided before the last product: 7,201 bp of 205 and of 212 are 148 and 153, of which 169 / 19 are
   -- 1316.42 and 1360.89
   pub premium-divided-last : map (premiumOf (termsOf 60 190 35 2 13000 1300 7201)) (240 ∷ 247 ∷ []) ≡ 1316 ∷ 1361 ∷ []
@@ -116,6 +118,7 @@ corners = record {
   no-reinstatement = refl;
   nothing-placed = refl;
   premium-of-placed = refl;
+  premium-of-half = refl;
   premium-divided-last = refl;
   premium-halves = refl;
   charged-in-turn = refl;

@@ -30,6 +30,7 @@ fn line(name: &[u8], cents: u64) {
     end_line();
 }
 
+// A quota share.
 fn quota(cede: u64, capacity: u64, limit: u64) -> Treaty
     requires { ⌜ (cede ≤ 10000) × (capacity ≤ 10 ^ 13) × (limit ≤ 10 ^ 13) ⌝ }
     ensures { λ r. ⌜ TermsInRange r ⌝ }

@@ -32,9 +32,9 @@ pub record Corners : Type 0 where
   pub capacity-passed : cessions (quotaOf 1 4000 20000 0) (lossOf 1 20001 30000 ∷ []) ≡ 11999 ∷ []
   -- rounded once, after the whole product: 160 and 190 × 7,201 × 7 / 90,000 are 89.61 and 106.41
   pub capacity-rounded : cessions (quotaOf 1 7201 7 0) (lossOf 1 9 160 ∷ lossOf 1 9 190 ∷ []) ≡ 90 ∷ 106 ∷ []
-  -- one below half a cent, a half and one above it: 19,298.499975, 10,801.5 and 2,304.500025
-  pub capacity-halves : cessions (quotaOf 1 7201 3 0) (lossOf 1 4 35733 ∷ lossOf 1 4 20000 ∷ lossOf 1 4 4267 ∷ [])
-      ≡ 19298 ∷ 10802 ∷ 2305 ∷ []
+  -- one below half a cent, a half and one above it: 19,298.499975, 32,404.5 and 2,304.500025
+  pub capacity-halves : cessions (quotaOf 1 7201 3 0) (lossOf 1 4 35733 ∷ lossOf 1 4 60000 ∷ lossOf 1 4 4267 ∷ [])
+      ≡ 19298 ∷ 32405 ∷ 2305 ∷ []
   -- all and nothing ceded
   pub cede-all : cessions (quotaOf 1 10000 0 0) (lossOf 1 1 777 ∷ []) ≡ 777 ∷ []
   pub cede-none : cessions (quotaOf 1 0 0 0) (lossOf 1 1 777 ∷ []) ≡ 0 ∷ []
@@ -66,8 +66,8 @@ pub record Corners : Type 0 where
       ≡ 67500 ∷ 67498 ∷ []
   -- E between r × n and r × (1 + n): 7,000 × 25,000 / 35,000
   pub between : cessions (surplusOf 1 10000 3 0) (lossOf 1 35000 7000 ∷ []) ≡ 5000 ∷ []
-  -- rounded once, after the whole product: 102 × 5 / 7, and 102 × 3 × 2 / 11
-  pub surplus-rounded : cessions (surplusOf 1 2 3 0) (lossOf 1 7 102 ∷ lossOf 1 11 102 ∷ []) ≡ 73 ∷ 56 ∷ []
+  -- rounded once, after the whole product: 102 × 5 / 7 is 72.86, and 100 × 3 × 2 / 11 is 54.55
+  pub surplus-rounded : cessions (surplusOf 1 2 3 0) (lossOf 1 7 102 ∷ lossOf 1 11 100 ∷ []) ≡ 73 ∷ 55 ∷ []
   -- one below half a cent, a half and one above it: 5 / 8 of 7, 4 and 9 are 4.375, 2.5 and 5.625, and 9 / 14 of 10, 7
   -- and 4 are 6.43, 4.5 and 2.57
   pub between-halves : cessions (surplusOf 1 3 3 0) (lossOf 1 8 7 ∷ lossOf 1 8 4 ∷ lossOf 1 8 9 ∷ [])

@@ -33,7 +33,7 @@ use Rattle.year.proofs.Examples.{standing}
 abbrev programme : Programme
 programme = programmeOf (record {
   treaties = quotaOf 2 4000 0 0 ∷ [];
-  risk = termsOf 500 1000 100 2 5000 800 3333 ∷ [];
+  risk = termsOf 500 1000 100 2 5000 800 3330 ∷ [];
   cat = termsOf 2000 3000 0 0 0 0 7200 ∷ [];
 })
 
@@ -61,7 +61,7 @@ pub record Corners : Type 0 where
   pub invalid : answer overlapping fresh "" 999 ≡ told 6 0
   pub invalid-first : answer overlapping (standing (9 ∷ 9 ∷ 9 ∷ []) [] 367) "no form" 0 ≡ told 6 0
   -- 8: at the cap and above it, in both tiers; not 0 for a missing layer; the last day
-  pub at-cap : answer programme (standing (3100 ∷ []) (3000 ∷ []) 0) "" 999 ≡ told 0 225
+  pub at-cap : answer programme (standing (3100 ∷ []) (3000 ∷ []) 0) "" 999 ≡ told 0 224
   pub above-cap : answer programme (standing (3101 ∷ []) [] 0) "" 999 ≡ told 8 0
   pub above-cat : answer programme (standing [] (3001 ∷ []) 0) "" 999 ≡ told 8 0
   pub missing-risk : answer programme (standing (0 ∷ 1 ∷ []) [] 0) "" 999 ≡ told 8 0

@@ -75,7 +75,7 @@ limitedTreaties = quotaOf 2 2500 0 900 ∷ surplusOf 5 1000 2 1300 ∷ []
 abbrev limitedEvents : List Event
 limitedEvents =
     record { day = 40; losses = lossOf 5 2000 1800 ∷ lossOf 2 1 3000 ∷ lossOf 5 4000 1400 ∷ lossOf 2 1 1001 ∷ [] }
-    ∷ record { day = 40; losses = lossOf 2 1 3599 ∷ lossOf 2 1 8 ∷ lossOf 5 3000 1500 ∷ [] } ∷ []
+    ∷ record { day = 40; losses = lossOf 2 1 3597 ∷ lossOf 2 1 8 ∷ lossOf 5 3000 1500 ∷ [] } ∷ []
 
 abbrev limitedShown : Statement
 limitedShown = record {
@@ -86,18 +86,18 @@ limitedShown = record {
       }
       ∷ record {
         day = 40;
-        amounts = record { gross = 5107; ceded = 1900; risk = 0; cat = 0; net = 3207; premium = 0 };
+        amounts = record { gross = 5105; ceded = 1900; risk = 0; cat = 0; net = 3205; premium = 0 };
       } ∷ [];
   treaties = record { number = 2; ceded = 1800 } ∷ record { number = 5; ceded = 2300 } ∷ [];
   layers = record { risk = []; cat = [] };
-  total = record { gross = 12308; ceded = 4100; risk = 0; cat = 0; net = 8208; premium = 0 };
+  total = record { gross = 12306; ceded = 4100; risk = 0; cat = 0; net = 8206; premium = 0 };
 }
 
 pub limits-worked : statementOf limitedTreaties (record { risk = []; cat = [] }) limitedEvents ≡ limitedShown
 unfolding rounded cededByQuota cededBySurplus cededOf cutToLimit cededOfLoss cededIn subjectOf
 limits-worked = refl
 
--- The ledger's y of each loss: 900, 2,250, 1,000 and 851, then 2,700, 7 and 500. Above an attachment of 800, up to 600
+-- The ledger's y of each loss: 900, 2,250, 1,000 and 851, then 2,698, 7 and 500. Above an attachment of 800, up to 600
 -- of each, they bring a layer 100 + 600 + 200 + 51 + 600; without the limits it would be less.
 pub limits-booked : map (λ (e : Entry). e .losses)
     (booked limitedTreaties (record { risk = firstEntry (termsOf 800 600 0 1 0 0 10000) ∷ []; cat = [] }) limitedEvents
