@@ -9,6 +9,10 @@ use std::cmp::Ordering;
 const FORMULAS: [&str; 6] =
     ["quota share", "quota share by capacity", "surplus", "surplus by lines", "placed share", "premium"];
 
+/// The places of the layers' formulas; `of_treaty` gives those of the treaties'.
+const PLACED_SHARE: usize = 4;
+const PREMIUM: usize = 5;
+
 /// Whole cents, less than half a cent more, a half, or more than that.
 const WAYS: [&str; 4] = ["whole", "below a half", "a half", "above a half"];
 
@@ -24,7 +28,7 @@ impl Roundings {
             for loss in &event.losses {
                 let Some(place) = programme.treaty(loss.treaty) else { continue };
                 let treaty = &programme.treaties[place];
-                self.add(formula(&treaty.terms, loss), &treaty.exactly_offered(loss));
+                self.add(of_treaty(&treaty.terms, loss), &treaty.exactly_offered(loss));
             }
         }
         let statement = String::from_utf8_lossy(statement);
@@ -36,8 +40,8 @@ impl Roundings {
 
     fn count_layer(&mut self, layer: &Layer, cover: u64) {
         let used = layer.limit * (layer.reinstatements + 1) - cover;
-        self.add(4, &layer.at_placed_share(used));
-        self.add(5, &layer.exact_premium(used));
+        self.add(PLACED_SHARE, &layer.at_placed_share(used));
+        self.add(PREMIUM, &layer.exact_premium(used));
     }
 
     fn add(&mut self, formula: usize, amount: &Exact) {
@@ -66,7 +70,7 @@ impl Roundings {
 }
 
 /// The place among the formulas of a loss of a treaty with these terms.
-fn formula(terms: &Terms, loss: &Loss) -> usize {
+fn of_treaty(terms: &Terms, loss: &Loss) -> usize {
     match *terms {
         Terms::Quota { capacity, .. } => usize::from(capacity > 0 && loss.maximum > capacity),
         Terms::Surplus { retention, lines } => 2 + usize::from(loss.maximum > retention * (1 + lines)),
