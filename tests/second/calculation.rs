@@ -6,8 +6,10 @@
 
 #[path = "events.rs"]
 pub mod events;
+#[path = "exact.rs"]
+pub mod exact;
 #[path = "formulas.rs"]
-pub mod formulas;
+mod formulas;
 #[path = "statement.rs"]
 mod statement;
 #[path = "table.rs"]

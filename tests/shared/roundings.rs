@@ -1,7 +1,7 @@
 //! How amounts lie between cents before they are rounded, by the second calculation's formulas.
 
 use crate::calculation::events::{read_events, Loss};
-use crate::calculation::formulas::Exact;
+use crate::calculation::exact::Exact;
 use crate::calculation::table::{Layer, Programme, Terms};
 use crate::totals::numbers;
 use std::cmp::Ordering;

@@ -69,8 +69,12 @@ pub record Corners : Type 0 where
   -- and nothing is divided before the last product: 7,201 bp of 205 and of 212 are 148 and 153, of which 169 / 19 are
   -- 1316.42 and 1360.89
   pub premium-divided-last : map (premiumOf (termsOf 60 190 35 2 13000 1300 7201)) (240 ∷ 247 ∷ []) ≡ 1316 ∷ 1361 ∷ []
-  -- one below half a cent, a half and one above it: 9 / 14 of 10, 7 and 4 are 6.43, 4.5 and 2.57
+  -- below half a cent, a half and above it: 9 / 14 of 10, 7 and 4 are 6.43, 4.5 and 2.57
   pub premium-halves : map (premiumOf (termsOf 0 14 0 1 5000 18 10000)) (10 ∷ 7 ∷ 4 ∷ []) ≡ 6 ∷ 5 ∷ 3 ∷ []
+  -- one below it, a half and one above it: 2,647 × 17, 9,000 × 5 and 4,091 × 11 of 90,000
+  pub premium-beside-halves : map (λ (t : Terms). premiumOf t 1)
+      (termsOf 0 9 0 1 2647 17 10000 ∷ termsOf 0 9 0 1 9000 5 10000 ∷ termsOf 0 9 0 1 4091 11 10000 ∷ [])
+      ≡ 0 ∷ 1 ∷ 1 ∷ []
   -- Premiums of losses in turn: used is 154, 872 and 1,828, reinstated 154, 872 and 1,300, B 111, 628 and 936, and
   -- 12 / 13 of it 102.46, 579.69 and 864.
   pub charged-in-turn : chargesOf (layerOf (termsOf 800 1300 250 1 8000 1500 7201) 0) (404 ∷ 718 ∷ 956 ∷ [])
@@ -121,6 +125,7 @@ corners = record {
   premium-of-half = refl;
   premium-divided-last = refl;
   premium-halves = refl;
+  premium-beside-halves = refl;
   charged-in-turn = refl;
   charged-by-tier = refl;
   recovered-by-tier = refl;
