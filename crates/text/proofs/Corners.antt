@@ -4,13 +4,15 @@ use mathlib.Core.Path.{_≡_, refl}
 use mathlib.Core.List.{[], _∷_, _++_}
 use mathlib.Core.Bool.{true, false}
 use mathlib.Core.Option.{none, some}
-use Prim.Native.Nat.{_+_, _*_, _^_}
+use Prim.Native.Nat.{_+_, _-_, _*_, _^_}
 use Rattle.text.specs.Bytes.{bytes}
 use Rattle.text.specs.Number.{printedBy, printed, digits, digitOf, readOn, number, numberAt}
+use Rattle.text.specs.declared.feed.Feed.the-variants.{First, None}
 use Rattle.text.specs.declared.number.Number.the-variants.{Value, Nothing}
 use Rattle.text.specs.declared.template.Place.the-variants.{At, Nowhere}
 use Rattle.text.specs.Template.{capital, filled, matched, matchedAt, wholeOf, lineNumbers, numbersBy}
-use Rattle.text.specs.Lines.{linesOf, joined}
+use Rattle.text.specs.Feed.{feedFrom, firstFeed}
+use Rattle.text.specs.Lines.{linesOf, joined, upTo, lineEnd}
 
 pub record Corners : Type 0 where
   -- printed: 0 itself, no leading zero, and more than sixteen digits where a total needs them
@@ -62,6 +64,22 @@ pub record Corners : Type 0 where
   pub carriage-return : lineNumbers (bytes "(band A L)") (bytes "(band 50 100)" ++ (13 ∷ [])) ≡ none
   pub nul : lineNumbers (bytes "(band A L)") (bytes "(band 50 100)" ++ (0 ∷ [])) ≡ none
   pub high-byte : lineNumbers (bytes "(band A L)") (bytes "(band 50 100)" ++ (255 ∷ [])) ≡ none
+  -- the first line feed of eight bytes: at either end; of two the first; and among bytes one off a line feed, next to
+  -- one, or above 127
+  pub feed-first : firstFeed 10 ≡ First 0
+  pub feed-last : firstFeed (10 * 2 ^ 56) ≡ First 7
+  pub feed-of-two : firstFeed (97 + 10 * 2 ^ 8 + 10 * 2 ^ 32) ≡ First 1
+  pub feed-after-letters : firstFeed (97 + 98 * 2 ^ 8 + 10 * 2 ^ 16 + 11 * 2 ^ 24) ≡ First 2
+  pub feed-after-high : firstFeed (138 + 255 * 2 ^ 8 + 128 * 2 ^ 16 + 129 * 2 ^ 24 + 10 * 2 ^ 32) ≡ First 4
+  pub no-feed-near : firstFeed (11 + 9 * 2 ^ 8 + 11 * 2 ^ 16 + 8 * 2 ^ 24 + 2 * 2 ^ 32) ≡ None
+  pub no-feed-high : firstFeed (138 + 139 * 2 ^ 8 + 137 * 2 ^ 16 + 138 * 2 ^ 56) ≡ None
+  pub no-feed-ones : firstFeed (2 ^ 64 - 1) ≡ None
+  pub no-feed-zeros : firstFeed 0 ≡ None
+  -- where a line ends, from its own place on: at the seventh byte, the eighth, the ninth; at the end of the text
+  pub end-in-eight : lineEnd (bytes "(a 12)\n\n") 0 ≡ 6
+  pub end-of-eight : lineEnd (bytes "(a 123)\n(a 4)\n") 0 ≡ 7
+  pub end-after-eight : lineEnd (bytes "\n(a 1234)\n") 1 ≡ 9
+  pub end-of-the-text : lineEnd (bytes "(a 1)\n(b") 6 ≡ 8
   -- lines
   pub no-lines : linesOf [] ≡ []
   pub empty-line : linesOf (bytes "\n") ≡ some [] ∷ []
@@ -70,7 +88,7 @@ pub record Corners : Type 0 where
 
 pub corners : Corners
 unfolding printedBy printed digitOf readOn number numberAt capital filled matched matchedAt wholeOf lineNumbers
-    linesOf
+    feedFrom linesOf upTo
 corners = record {
   zero-printed = refl;
   ten-printed = refl;
@@ -110,6 +128,19 @@ corners = record {
   carriage-return = refl;
   nul = refl;
   high-byte = refl;
+  feed-first = refl;
+  feed-last = refl;
+  feed-of-two = refl;
+  feed-after-letters = refl;
+  feed-after-high = refl;
+  no-feed-near = refl;
+  no-feed-high = refl;
+  no-feed-ones = refl;
+  no-feed-zeros = refl;
+  end-in-eight = refl;
+  end-of-eight = refl;
+  end-after-eight = refl;
+  end-of-the-text = refl;
   no-lines = refl;
   empty-line = refl;
   two-and-a-half = refl;

@@ -18,37 +18,33 @@ use Rattle.text.specs.Template.{capital, filled}
 use Rattle.text.specs.Lines.{beginning, linesOf, joined, upTo, placeOf, lineEnd}
 use Rattle.text.proofs.Printing.{by-digits, printed-one, printed-more}
 
--- a byte is sought from the place `at` of the text s on: `left` bytes are left, and it stands in none before them
-pub record Seeking (byte : ℕ) (s : List ℕ) (at left : ℕ) : Type 0 where
-  pub within : left ≤ length s - at
-  pub ahead : placeOf byte s at ≡ placeOf byte s (length s - left)
+-- a byte is sought from the place `at` of the text s on, and does not stand before the place i
+pub record Seeking (byte : ℕ) (s : List ℕ) (at i : ℕ) : Type 0 where
+  pub after : at ≤ i
+  pub within : i ≤ length s
+  pub ahead : placeOf byte s at ≡ placeOf byte s i
 
-pub none-sought : (byte : ℕ) (s : List ℕ) (at : ℕ) → at ≤ length s → Seeking byte s at (length s - at)
-none-sought byte s at h =
-    let e : length s - (length s - at) ≡ at = omega arith in
-    record { within = omega arith; ahead = rw e }
+pub none-sought : (byte : ℕ) (s : List ℕ) (at : ℕ) → at ≤ length s → Seeking byte s at at
+none-sought byte s at h = record { after = omega arith; within = h; ahead = refl }
 
-module _ (byte : ℕ) (s : List ℕ) (at left : ℕ) (h : at ≤ length s) (g : Seeking byte s at left) where
-  pub nowhere : left ≤ 0 → length s ≡ placeOf byte s at
+module _ (byte : ℕ) (s : List ℕ) (at i : ℕ) (g : Seeking byte s at i) where
+  pub nowhere : length s ≤ i → i ≡ placeOf byte s at
   unfolding upTo
-  nowhere z = sym (g .ahead ∙ rw (drop-of-length-le s {i = length s - left} (omega arith)) (omega arith))
+  nowhere z = sym (g .ahead ∙ rw (drop-of-length-le s {i = i} z) (omega arith))
 
-  module _ (l : 0 < left) where
-    inside : length s - left < length s
-    inside = omega (arith, g .within)
-
-    pub here : getD s (length s - left) 0 ≡ byte → length s - left ≡ placeOf byte s at
+  module _ (l : i < length s) where
+    pub here : getD s i 0 ≡ byte → i ≡ placeOf byte s at
     unfolding upTo
-    here b = sym (g .ahead ∙ rw (drop-cons s (length s - left) 0 inside) (simp (upTo, eq-eqb _ _ b) (omega arith)))
+    here b = sym (g .ahead ∙ rw (drop-cons s i 0 l) (simp (upTo, eq-eqb _ _ b) (omega arith)))
 
-    pub later : (getD s (length s - left) 0 ≡ byte → ⊥) → Seeking byte s at (left - 1)
+    pub later : (getD s i 0 ≡ byte → ⊥) → Seeking byte s at (i + 1)
     unfolding upTo
     later b = record {
-      within = omega (arith, g .within);
+      after = omega (arith, g .after);
+      within = omega arith;
       ahead =
-          let next : length s - (left - 1) ≡ suc (length s - left) = omega (arith, inside) in
-          g .ahead
-          ∙ rw (next, drop-cons s (length s - left) 0 inside) (simp (upTo, ne-eqb _ _ b) (omega arith));
+          let next : i + 1 ≡ suc i = omega arith in
+          g .ahead ∙ rw (next, drop-cons s i 0 l) (simp (upTo, ne-eqb _ _ b) (omega arith));
     }
 
 up-to-feed-le : (s : List ℕ) → length (upTo 10 s) ≤ length s

@@ -17,6 +17,8 @@ pub mod Lengths
 pub mod Filling
 pub mod Pieces
 pub mod Feeds
+pub mod FirstFeed
+pub mod Borrows
 pub mod Cuts
 pub mod Ascii
 pub mod Corners

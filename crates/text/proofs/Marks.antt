@@ -13,14 +13,14 @@ use lib.ListN.{getD}
 use Rattle.lists.proofs.Cases.{by-eq}
 use Rattle.text.specs.Number.{digitOf}
 use Rattle.text.specs.Word.{byteOf, markOf, BytesAt, Lowered, Marked}
-use Rattle.text.proofs.Words.{by-byte, and-byte, or-byte, xor-byte}
+use Rattle.text.proofs.Words.{by-byte, repeated-byte, and-byte, or-byte, xor-byte}
 
 -- a test passed by each number below n
-all-below : ℕ → (ℕ → Bool) → Bool
+unfoldable pub all-below : ℕ → (ℕ → Bool) → Bool
 all-below zero p = true
 all-below (suc n) p = elim (p n) [ true ↦ all-below n p | false ↦ false ]
 
-at-below : (n : ℕ) (p : ℕ → Bool) → all-below n p ≡ true → (k : ℕ) → k < n → p k ≡ true
+pub at-below : (n : ℕ) (p : ℕ → Bool) → all-below n p ≡ true → (k : ℕ) → k < n → p k ≡ true
 unfolding all-below
 at-below zero p e k l = absurd (omega arith)
 at-below (suc n) p e k l = go (p n) refl (λ d. at-below n p d k)
@@ -36,7 +36,7 @@ abbrev zeros : ℕ
 zeros = 3472328296227680304
 
 zeros-byte : (k : ℕ) → k < 8 → byteOf zeros k ≡ 48
-zeros-byte = by-byte (λ k. byteOf zeros k ≡ 48) refl refl refl refl refl refl refl refl
+zeros-byte = repeated-byte 48 (lit< tt) 8
 
 digit-passes : ℕ → Bool
 digit-passes b = elim (ltb (bitXor b 48) 10) [ true ↦ eqb (bitXor b 48) (digitOf b) | false ↦ eqb (digitOf b) 10 ]
@@ -77,10 +77,10 @@ abbrev steps : ℕ
 steps = 8536140394893047414
 
 lows-byte : (k : ℕ) → k < 8 → byteOf lows k ≡ 127
-lows-byte = by-byte (λ k. byteOf lows k ≡ 127) refl refl refl refl refl refl refl refl
+lows-byte = repeated-byte 127 (lit< tt) 8
 
 tops-byte : (k : ℕ) → k < 8 → byteOf tops k ≡ 128
-tops-byte = by-byte (λ k. byteOf tops k ≡ 128) refl refl refl refl refl refl refl refl
+tops-byte = repeated-byte 128 (lit< tt) 8
 
 -- a sum of bytes of at most 127 and of 118 carries nothing from byte to byte
 sum-byte : (a : ℕ) → ((k : ℕ) → k < 8 → a % 2 ^ (8 * k) ≤ lows % 2 ^ (8 * k)) → (k : ℕ) → k < 8 → byteOf a k ≤ 127

@@ -85,6 +85,18 @@ next-byte m k = ap (λ (n : ℕ). n % 256) (ap (λ (n : ℕ). m / n) power ∙ s
     power : 2 ^ (8 * suc k) ≡ 256 * 2 ^ (8 * k)
     power = ap (λ (n : ℕ). 2 ^ n) (let e : 8 * suc k ≡ 8 + 8 * k = omega arith in e) ∙ pow-add 2 8 (8 * k)
 
+-- the same byte in each of j bytes
+abbrev pub repeated : ℕ → ℕ → ℕ
+repeated c zero = 0
+repeated c (suc j) = c + 256 * repeated c j
+
+pub repeated-byte : (c : ℕ) → c < 256 → (j k : ℕ) → k < j → byteOf (repeated c j) k ≡ c
+repeated-byte c l zero k m = absurd (omega arith)
+repeated-byte c l (suc j) zero m = omega arith
+repeated-byte c l (suc j) (suc k) m =
+    let rest : repeated c (suc j) / 256 ≡ repeated c j = omega arith in
+    next-byte (repeated c (suc j)) k ∙ rw rest (repeated-byte c l j k (omega arith))
+
 -- bit by bit is byte by byte
 module _ (a b k : ℕ) where
   pub and-byte : byteOf (bitAnd a b) k ≡ bitAnd (byteOf a k) (byteOf b k)

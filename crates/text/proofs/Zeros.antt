@@ -25,10 +25,10 @@ zeros-half k m b f =
     (λ e. let o : m % 2 ≡ 1 = omega arith in omega (arith, zeros-odd k m o))
 
 -- eight bits more
-abbrev more : ℕ → ℕ
+abbrev pub more : ℕ → ℕ
 more k = suc (suc (suc (suc (suc (suc (suc (suc k)))))))
 
-zeros-stop : (k m : ℕ) → (m % 256 ≡ 0 → ⊥) → trailingZeros (more k) m < 8
+pub zeros-stop : (k m : ℕ) → (m % 256 ≡ 0 → ⊥) → trailingZeros (more k) m < 8
 zeros-stop k m n =
     zeros-half _ m 7 (λ a.
     zeros-half _ (m / 2) 6 (λ b.
@@ -39,7 +39,7 @@ zeros-stop k m n =
     zeros-half _ (m / 2 / 2 / 2 / 2 / 2 / 2) 1 (λ g.
     zeros-half _ (m / 2 / 2 / 2 / 2 / 2 / 2 / 2) 0 (λ h. absurd (n (omega arith))))))))))
 
-zeros-skip : (k m : ℕ) → m % 256 ≡ 0 → trailingZeros (more k) m ≡ more (trailingZeros k (m / 256))
+pub zeros-skip : (k m : ℕ) → m % 256 ≡ 0 → trailingZeros (more k) m ≡ more (trailingZeros k (m / 256))
 zeros-skip k m z =
     zeros-even _ m (omega arith)
     ∙ ap suc (zeros-even _ (m / 2) (omega arith)
@@ -54,7 +54,7 @@ zeros-skip k m z =
     whole : m / 2 / 2 / 2 / 2 / 2 / 2 / 2 / 2 ≡ m / 256
     whole = omega arith
 
-abbrev bits : ℕ → ℕ
+abbrev pub bits : ℕ → ℕ
 bits zero = 0
 bits (suc j) = more (bits j)
 

@@ -4,4 +4,5 @@ pub mod Number
 pub mod Template
 pub mod Lines
 pub mod Word
+pub mod Feed
 pub mod Begin

@@ -4,31 +4,39 @@ ghost use Prim.Native.Nat.{_≤_};
 ghost use lib.ListN.{length};
 ghost use Rattle.text.specs.Begin.{Stands};
 ghost use Rattle.text.specs.Lines.{placeOf, lineEnd};
+use crate::feed;
+use crate::feed::Feed;
+use crate::word;
 
-// Where a byte stands next, from a place on, or the end of the text. The bytes left are counted down, so that a turn
-// tests one number against 0.
+// Where a byte stands next, from a place on, or the end of the text, byte by byte.
 pub fn place_of(s: &[u8], at: usize, byte: u8) -> usize
     requires { ⌜ at ≤ length (now s) ⌝ }
     ensures { λ r. ⌜ (r ≡ placeOf byte (now (s .entry)) at) × (at ≤ r) × (r ≤ length (now (s .entry))) ⌝ }
 {
-    let end = s.len();
-    let mut left = end - at;
-    while 0 < left {
-        let i = end - left;
+    let mut i = at;
+    while i < s.len() {
         if s[i] == byte {
             return i;
         }
-        left -= 1;
+        i += 1;
     }
-    end
+    i
 }
 
-// Where the line that begins at a place ends: at its line feed, or at the end of the text.
+// Where the line that begins at a place ends: at its line feed, or at the end of the text. Eight bytes are looked at as
+// one word, the last few by byte.
 pub fn end(s: &[u8], at: usize) -> usize
     requires { ⌜ at ≤ length (now s) ⌝ }
     ensures { λ r. ⌜ (r ≡ lineEnd (now (s .entry)) at) × (at ≤ r) × (r ≤ length (now (s .entry))) ⌝ }
 {
-    place_of(s, at, b'\n')
+    let mut from = at;
+    while from + 7 < s.len() {
+        match feed::first(word::at(s, from)) {
+            Feed::First(k) => return from + k,
+            Feed::None => from += 8,
+        }
+    }
+    place_of(s, from, b'\n')
 }
 
 // Whether a byte stands at a place.

@@ -1,6 +1,6 @@
 // Eight bytes of a text as one word, the first lowest, and the digits among them.
 ghost use mathlib.Core.Path.{_≡_};
-ghost use Prim.Native.Nat.{_+_, _^_, _≤_, _<_};
+ghost use Prim.Native.Nat.{_+_, _/_, _^_, _≤_, _<_};
 ghost use lib.ListN.{length};
 ghost use Rattle.text.specs.Word.{byteOf, figures, BytesAt, Lowered, Marked, Leading, Figures, DigitsAt};
 
@@ -34,7 +34,7 @@ fn four(s: &[u8], place: usize) -> u64
 }
 
 // Eight bytes of a text. This compiles to one load.
-fn at(s: &[u8], place: usize) -> u64
+pub fn at(s: &[u8], place: usize) -> u64
     requires { ⌜ place + 8 ≤ length (now s) ⌝ }
     ensures { λ r. ⌜ BytesAt (now (s .entry)) place 8 r ⌝ }
 {
@@ -66,12 +66,18 @@ fn marks(t: u64) -> u64
     ((low + 0x7676767676767676) | t) & 0x8080808080808080
 }
 
+// The place of the byte that has a bit of a word, by the bit's own place.
+pub fn byte_with(bit: u32) -> usize
+    ensures { λ r. ⌜ r ≡ bit / 8 ⌝ }
+{
+    (bit / 8) as usize
+}
+
 // How many bytes below 10 a word begins with.
 fn leading(t: u64) -> usize
     ensures { λ r. ⌜ Leading t r ⌝ }
 {
-    let zeros = u64::trailing_zeros(marks(t));
-    (zeros / 8) as usize
+    byte_with(u64::trailing_zeros(marks(t)))
 }
 
 // The digits that a text has at a place, among its next eight bytes.

@@ -1,24 +1,20 @@
 -- `text::line::place_of` meets its contract.
 -- Assumes nothing.
+use Prim.Native.Nat.{_-_}
 use borrow.Author.Needs.{needs}
+use lib.ListN.{length}
 use Rattle.text.proofs.Feeds as law
 use Rattle.text.proofs.line.place_of.Statement.{statement}
 use Rattle.text.proofs.line.place_of.Tie as tie
 
 abbrev Inv-loop : tie.InvT-loop
-Inv-loop s at byte end left₀ left = law.Seeking byte s at left
+Inv-loop s at byte i₀ i = law.Seeking byte s at i
 
 abbrev μ-loop : tie.MeasureT-loop
-μ-loop s at byte end left₀ left = left
-
-sub-left : tie.Need-sub-left Inv-loop μ-loop
-sub-left c = search needs
+μ-loop s at byte i₀ i = length s - i
 
 loop-holds : tie.Need-loop-holds Inv-loop μ-loop
 loop-holds c = search law.none-sought
-
-sub-i : tie.Need-sub-i Inv-loop μ-loop
-sub-i c = search needs
 
 shared-slice-read-if1 : tie.Need-shared-slice-read-if1 Inv-loop μ-loop
 shared-slice-read-if1 c = search needs
@@ -26,8 +22,8 @@ shared-slice-read-if1 c = search needs
 returns : tie.Need-returns Inv-loop μ-loop
 returns c = (search law.here, search needs, search needs)
 
-sub-left-2 : tie.Need-sub-left-2 Inv-loop μ-loop
-sub-left-2 c = search needs
+add-i : tie.Need-add-i Inv-loop μ-loop
+add-i c = search needs
 
 loop-less : tie.Need-loop-less Inv-loop μ-loop
 loop-less c = search needs
@@ -40,16 +36,4 @@ returns-2 c = (search law.nowhere, search needs, search needs)
 
 pub place-of-spec : {M : Type 1} → statement M
 place-of-spec =
-    tie.close
-    (tie.spec
-    Inv-loop
-    μ-loop
-    sub-left
-    loop-holds
-    sub-i
-    shared-slice-read-if1
-    returns
-    sub-left-2
-    loop-less
-    loop-again
-    returns-2)
+    tie.close (tie.spec Inv-loop μ-loop loop-holds shared-slice-read-if1 returns add-i loop-less loop-again returns-2)

@@ -1,0 +1,25 @@
+// The first line feed among eight bytes.
+ghost use mathlib.Core.Path.{_≡_};
+ghost use Rattle.text.specs.Feed.{firstFeed};
+use crate::word;
+
+// Where the first line feed stands among eight bytes, or that none of them is one.
+pub enum Feed {
+    First(usize),
+    None,
+}
+
+// Looks for a line feed in the eight bytes of a word, all at once: with its bits turned, a line feed is 0, and 1 taken
+// from each byte sets the high bit of a byte that had none, if the byte was 0. A 0 borrows from the byte after it, so
+// that only the first mark is sure to be a line feed.
+pub fn first(w: u64) -> Feed
+    ensures { λ r. ⌜ r ≡ firstFeed w ⌝ }
+{
+    let turned = w ^ 0x0a0a0a0a0a0a0a0a;
+    let less = std::num::wrapping_sub_u64(turned, 0x0101010101010101);
+    let marks = less & (turned ^ 0xffffffffffffffff) & 0x8080808080808080;
+    if marks == 0 {
+        return Feed::None;
+    }
+    Feed::First(word::byte_with(u64::trailing_zeros(marks)))
+}
