@@ -1,14 +1,8 @@
 // The cases of the benchmark of runs: a table and what is run under it, the same in every run.
-#[path = "random.rs"]
-mod random;
-
 use crate::sides::Sides;
-use random::Random;
+use crate::texts::random::Random;
+use crate::texts::{event, full_text, idle_text, text, Draw, CEDED, LARGE, LEAST_LARGE, MIXED, SEED};
 use std::fmt::Write;
-
-pub const EVENTS_BYTES: usize = 65_536;
-const LAST_DAY: u64 = 366;
-const SEED: u64 = 0x9e37_79b9_7f4a_7c15;
 
 // Texts that are run one after the other, each in a fresh year.
 pub struct Case {
@@ -29,26 +23,12 @@ pub const CASES: [Named; 14] = [
     ("surplus", || Case::new(surplus_table(), [full_text(CEDED)])),
     ("large", || Case::new(large_table(), [full_text(LARGE)])),
     ("one-loss", || Case::new(full_table(), [full_text(Draw { losses: 1, ..MIXED })])),
-    ("no-loss", || Case::new(full_table(), ["(event 1)\n".repeat(EVENTS_BYTES / 10)])),
+    ("no-loss", || Case::new(full_table(), [idle_text()])),
     ("short", || Case::new(short_table(), short_texts().take(1))),
     ("one-event", || Case::new(short_table(), ["(event 40 (loss 1 50000000 45000000))\n".to_string()])),
     ("empty", || Case::new(short_table(), [String::new()])),
     ("short-years", || Case::new(short_table(), short_texts().take(10_000))),
 ];
-
-// How the losses of a text are drawn: how many to an event, and from which numbers.
-#[derive(Clone, Copy)]
-struct Draw {
-    losses: usize,
-    treaties: [u64; 2],
-    maximum: [u64; 2],
-    least_amount: u64,
-}
-
-const MIXED: Draw = Draw { losses: 64, treaties: [0, 8], maximum: [1, 60_000_000], least_amount: 0 };
-const CEDED: Draw = Draw { treaties: [1, 1], ..MIXED };
-const LARGE: Draw = Draw { maximum: [LEAST_LARGE, 10 * LEAST_LARGE], least_amount: LEAST_LARGE, ..MIXED };
-const LEAST_LARGE: u64 = 1_000_000_000_000;
 
 impl Case {
     fn new(table: String, texts: impl IntoIterator<Item = String>) -> Case {
@@ -67,33 +47,6 @@ impl Case {
         assert_eq!(events.len(), length);
         Case::new(full_table(), [events])
     }
-}
-
-fn event(random: &mut Random, draw: Draw, day: u64) -> String {
-    let mut line = format!("(event {day}");
-    for _ in 0..draw.losses {
-        let maximum = random.between(draw.maximum[0], draw.maximum[1]);
-        let treaty = random.between(draw.treaties[0], draw.treaties[1]);
-        let _ = write!(line, " (loss {treaty} {maximum} {})", random.between(draw.least_amount, maximum));
-    }
-    line + ")\n"
-}
-
-// As many events, a day each from a first one, as so many bytes hold.
-fn text(random: &mut Random, draw: Draw, first_day: u64, length: usize) -> String {
-    let mut events = String::new();
-    for day in first_day.. {
-        let line = event(random, draw, day.min(LAST_DAY));
-        if events.len() + line.len() > length {
-            break;
-        }
-        events += &line;
-    }
-    events
-}
-
-fn full_text(draw: Draw) -> String {
-    text(&mut Random(SEED), draw, 1, EVENTS_BYTES)
 }
 
 // A year of eight events.

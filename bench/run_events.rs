@@ -17,18 +17,20 @@ mod random;
 mod raw;
 mod sides;
 mod stack;
+mod texts;
+mod timing;
 #[path = "../tests/shared/totals.rs"]
 #[allow(dead_code)] // the tests call the rest
 mod totals;
 mod yardstick;
 
-use cases::{Case, CASES, EVENTS_BYTES};
+use cases::{Case, CASES};
 use sides::{Rooms, Year, ROOM};
 use std::env;
 use std::hint::black_box;
-use std::time::Instant;
+use texts::EVENTS_BYTES;
+use timing::{median, time, ROUNDS};
 
-const ROUNDS: usize = 101;
 // A round takes the yardstick about so long, in nanoseconds.
 const ROUND_TIME: f64 = 1_000_000.0;
 
@@ -70,20 +72,6 @@ impl Case {
         }
         times.map(median)
     }
-}
-
-// The mean time of a call, in nanoseconds.
-fn time<T>(turns: usize, mut call: impl FnMut() -> T) -> f64 {
-    let start = Instant::now();
-    for _ in 0..turns {
-        black_box(call());
-    }
-    start.elapsed().as_nanos() as f64 / turns as f64
-}
-
-fn median(mut times: Vec<f64>) -> f64 {
-    times.sort_by(f64::total_cmp);
-    times[times.len() / 2]
 }
 
 // All cases are compared before the first is timed.

@@ -1,5 +1,6 @@
 // The stack that a run takes: the part below the caller is painted, and what is no longer paint after a run was used.
-use crate::cases::{Case, EVENTS_BYTES};
+use crate::cases::Case;
+use crate::texts::EVENTS_BYTES;
 use crate::sides::ROOM;
 use std::hint::black_box;
 

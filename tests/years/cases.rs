@@ -4,6 +4,7 @@ use crate::calculation::table::TABLE_BYTES;
 use crate::calculation::EVENTS_BYTES;
 use crate::damage::{self, Fault};
 use crate::draw::{self, line, Lines, Table};
+use crate::feeds::NEARLY_FEEDS;
 use crate::printed::printed;
 use crate::random::Random;
 use crate::table_damage::{self, MISPLACED};
@@ -109,6 +110,7 @@ impl Cases {
             26 => self.largest(),
             27 => self.damaged_table(table_damage::ninth),
             28 => self.misplaced(),
+            29 => self.misended(),
             _ => self.year(),
         }
     }
@@ -157,6 +159,25 @@ impl Cases {
         let mut lines = table.lines;
         let (kind, later) = MISPLACED[self.round % MISPLACED.len()];
         table_damage::misplace(&mut self.random, &mut lines, kind, later);
+        text_case(&lines, &events)
+    }
+
+    /// A line of the events or of the table that ends with a byte which is nearly a line feed, each in turn, or
+    /// several line feeds after a line; no other fault.
+    fn misended(&mut self) -> Case {
+        let (table, mut events) = self.draw(3);
+        let mut lines = table.lines;
+        let turns = NEARLY_FEEDS.len() + 1;
+        match NEARLY_FEEDS.get(self.round % turns) {
+            Some(byte) => {
+                let in_table = self.round / turns % 2 == 1 && !lines.is_empty();
+                let text = if in_table { &mut lines } else { &mut events };
+                let place = self.random.place(text.len());
+                text[place].pop();
+                text[place].push(*byte);
+            }
+            None => events[0].extend(b"\n\n"),
+        }
         text_case(&lines, &events)
     }
 

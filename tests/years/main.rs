@@ -9,6 +9,8 @@ mod cases;
 mod damage;
 #[path = "../shared/draw.rs"]
 mod draw;
+#[path = "../shared/feeds.rs"]
+mod feeds;
 #[path = "../shared/limits.rs"]
 mod limits;
 #[path = "../second/printed.rs"]

@@ -1,6 +1,7 @@
 //! What the years compared so far have reached.
 
 use crate::calculation::read_table;
+use crate::feeds::Feeds;
 use crate::limits::Limits;
 use crate::roundings::Roundings;
 use crate::table_damage::{kind_of, MISPLACED};
@@ -33,6 +34,7 @@ pub struct Tally {
     all: usize,
     limits: Limits,
     roundings: Roundings,
+    feeds: Feeds,
 }
 
 /// The pairs of kinds in words.
@@ -45,8 +47,10 @@ impl Tally {
         self.compared += 1;
         let table = table.unwrap_or_default();
         let Some(amounts) = totals(printed) else {
-            return self.count_refusal(table, printed);
+            return self.count_refusal(table, events, printed);
         };
+        self.feeds.count(table, None);
+        self.feeds.count(events, None);
         if let Ok(programme) = read_table(table) {
             self.limits.count(&programme, events);
             self.roundings.count(&programme, events, printed);
@@ -59,12 +63,15 @@ impl Tally {
         self.all += usize::from(has_all(&amounts));
     }
 
-    fn count_refusal(&mut self, table: &[u8], printed: &[u8]) {
+    fn count_refusal(&mut self, table: &[u8], events: &[u8], printed: &[u8]) {
         let answer = numbers(&String::from_utf8_lossy(printed));
         let [refusal, second] = answer[..] else { return };
         *self.refused.entry(refusal).or_default() += 1;
-        if refusal == 4 {
-            self.count_misplaced(table, second as usize);
+        match refusal {
+            2 => self.feeds.count(table, Some(second as usize)),
+            4 => self.count_misplaced(table, second as usize),
+            10 => self.feeds.count(events, Some(second as usize)),
+            _ => {}
         }
     }
 
@@ -88,6 +95,7 @@ impl Tally {
         println!("years: out of order: {}", counts.collect::<Vec<String>>().join(", "));
         println!("years: {}", self.limits.shown());
         println!("years: {}", self.roundings.shown());
+        println!("years: {}", self.feeds.shown());
     }
 
     /// What the years should have reached and did not.
@@ -101,6 +109,8 @@ impl Tally {
         missing.extend(too_few.map(|(name, count)| format!("event limits met: {name}: {count}, too few")));
         let too_few = self.roundings.counts().filter(|(_, count)| count * 100 < self.compared * LEAST_ROUNDINGS);
         missing.extend(too_few.map(|(name, count)| format!("rounded: {name}: {count}, too few")));
+        let unmet = self.feeds.counts().into_iter().filter(|(_, count)| *count == 0);
+        missing.extend(unmet.map(|(name, _)| format!("no line feed met: {name}")));
         if self.all * 100 < self.compared * LEAST_FULL_YEARS {
             missing.push("too few years with cessions, recoveries of both tiers and premium".to_string());
         }

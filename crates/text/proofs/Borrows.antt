@@ -1,10 +1,10 @@
--- Laws of the marks by which a word's first line feed is found: 1 is taken from each byte, and up to the first line feed
--- no byte borrows from the next.
+-- Laws of the marks by which a word's first line feed is found: 1 is taken from each byte, and before the first line
+-- feed no byte borrows from the next.
 -- Assumes nothing.
 use mathlib.Core.Bool.{Bool, true, false}
 use mathlib.Core.Path.{_≡_, refl, sym, ap, ap₂, _∙_}
-use Prim.Native.Nat.{ℕ, zero, suc, _+_, _-_, _*_, _/_, _%_, _^_, _≤_, _<_}
-use native.Mathlib.Nat.{mod-lt, mul-assoc}
+use Prim.Native.Nat.{ℕ, zero, suc, _+_, _-_, _*_, _/_, _%_, _^_, _<_}
+use native.Mathlib.Nat.{mod-lt}
 use native.Mathlib.Omega.{arith}
 use borrow.Author.Tests.{eq-eqb, eqb-true}
 use lib.Bits.{bitAnd, bitXor, and-mod, xor-mod, and-shr, xor-shr, and-zero-r}
@@ -20,14 +20,14 @@ use Rattle.text.proofs.Zeros.{bits, zeros-stop, zeros-skip}
 use Rattle.text.proofs.FirstFeed.{NoneIn, FirstIn, first-exactly, none-exactly}
 
 -- a number above j bytes
-abbrev pub above : ℕ → ℕ → ℕ
+abbrev above : ℕ → ℕ → ℕ
 above zero n = n
 above (suc j) n = 256 * above j n
 
 -- r is t with 1 taken from each of j bytes, but for what the last one borrows
-pub record Less (j t r : ℕ) : Type 0 where
-  pub owed : ℕ
-  pub taken : r + repeated 1 j ≡ t + above j owed
+record Less (j t r : ℕ) : Type 0 where
+  owed : ℕ
+  taken : r + repeated 1 j ≡ t + above j owed
 
 -- j bytes with a line feed's bits turned in each
 abbrev pub turned : ℕ → ℕ → ℕ
@@ -76,8 +76,8 @@ module _ (j t r : ℕ) where
     less-rest : (t % 256 ≡ 0 → ⊥) → Less j (t / 256) (r / 256)
     less-rest e = record { owed = h .owed; taken = omega (arith, h .taken) }
 
--- the rules at one byte, tried at each of the 256: the line feed alone is turned to 0, and any other byte less 1 has no
--- mark
+-- the rules at one byte, tried at each of the 256: the line feed alone is turned to 0, and a byte less 1, where it is
+-- not 0, has no mark
 turned-passes : ℕ → Bool
 turned-passes b = elim (eqb (bitXor b 10) 0) [ true ↦ eqb b 10 | false ↦ true ]
 
@@ -94,9 +94,9 @@ unfolding all-below mark-passes
 mark-other t l = eqb-true (mark t (t - 1)) 0 (at-below 256 mark-passes refl t l)
 
 -- what the marks m tell of j bytes of a word
-pub record Found (j w m : ℕ) : Type 0 where
-  pub none : m ≡ 0 → NoneIn (byteOf w) 0 j
-  pub first : (m ≡ 0 → ⊥) → FirstIn (byteOf w) 0 j (trailingZeros (bits j) m / 8)
+record Found (j w m : ℕ) : Type 0 where
+  none : m ≡ 0 → NoneIn (byteOf w) 0 j
+  first : (m ≡ 0 → ⊥) → FirstIn (byteOf w) 0 j (trailingZeros (bits j) m / 8)
 
 module _ (j w m : ℕ) where
   found-here : w % 256 ≡ 10 → m % 256 ≡ 128 → Found (suc j) w m
@@ -118,7 +118,10 @@ module _ (j w m : ℕ) where
     passed-by r g (suc i) l k e = g i (omega arith) (omega arith) (sym (next-byte w i) ∙ e)
 
     found-later : Found (suc j) w m
-    found-later = record { none = λ e. passed-by j (f .none (omega arith)); first = λ e. one-on (f .first (λ d. e (omega arith))) }
+    found-later = record {
+      none = λ e. passed-by j (f .none (omega arith));
+      first = λ e. one-on (f .first (λ d. e (omega arith)));
+    }
       where
         place : trailingZeros (bits (suc j)) m / 8 ≡ suc (trailingZeros (bits j) (m / 256) / 8)
         place = omega (arith, zeros-skip (bits j) m z)
@@ -152,10 +155,12 @@ module _ (j w r : ℕ) (h : Less (suc j) (turned (suc j) w) r) where
     found-other : Found j (w / 256) (marks j (turned j (w / 256)) (r / 256)) → Found (suc j) w (marks (suc j) t r)
     found-other f =
         found-later j w (marks (suc j) t r) n
-        (marks-low j t r ∙ ap (mark (t % 256)) (less-low j t r h other-low) ∙ mark-other (t % 256) (mod-lt t (lit< tt)))
+        (marks-low j t r
+        ∙ ap (mark (t % 256)) (less-low j t r h other-low)
+        ∙ mark-other (t % 256) (mod-lt t (lit< tt)))
         (rw (marks-rest j t r, turned-rest j w) f)
 
-pub found : (j w r : ℕ) → Less j (turned j w) r → Found j w (marks j (turned j w) r)
+found : (j w r : ℕ) → Less j (turned j w) r → Found j w (marks j (turned j w) r)
 found zero w r h = record {
   none = λ z i l k. absurd (omega arith);
   first = λ z. absurd (z (and-zero-r (bitAnd r (bitXor (turned 0 w) 0))));
@@ -165,13 +170,16 @@ found (suc j) w r h =
     (found-feed j w r h)
     (λ n. found-other j w r h n (found j (w / 256) (r / 256) (less-on j w r h n)))
 
--- eight bytes less 1 each, as a word: what the last one borrows falls away
+-- of a word: what its last byte borrows falls away
 module _ (w r : ℕ) (h : (r + repeated 1 8) % 2 ^ 64 ≡ turned 8 w) where
-  marked : Found 8 w (marks 8 (turned 8 w) r)
+  abbrev of-word : ℕ
+  of-word = marks 8 (turned 8 w) r
+
+  marked : Found 8 w of-word
   marked = found 8 w r (record { owed = (r + repeated 1 8) / 2 ^ 64; taken = omega arith })
 
-  pub no-mark : marks 8 (turned 8 w) r ≡ 0 → None ≡ firstFeed w
+  pub no-mark : of-word ≡ 0 → None ≡ firstFeed w
   no-mark z = sym (none-exactly w .1 (marked .none z))
 
-  pub first-mark : (marks 8 (turned 8 w) r ≡ 0 → ⊥) → First (trailingZeros 64 (marks 8 (turned 8 w) r) / 8) ≡ firstFeed w
+  pub first-mark : (of-word ≡ 0 → ⊥) → First (trailingZeros 64 of-word / 8) ≡ firstFeed w
   first-mark z = sym (first-exactly w _ .1 (marked .first z))

@@ -1,5 +1,5 @@
--- Document 02, Q-6: "For every eight bytes the word test must give the place of the first line feed among them, and none
--- exactly when none is there."
+-- Document 02, Q-6: "For every eight bytes the word test must give the place of the first line feed among them, and
+-- none exactly when none is there."
 -- Assumes nothing.
 use mathlib.Core.Bool.{true, false}
 use Prim.Native.Nat.{ℕ, zero, suc}

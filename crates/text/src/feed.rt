@@ -9,9 +9,9 @@ pub enum Feed {
     None,
 }
 
-// Looks for a line feed in the eight bytes of a word, all at once: with its bits turned, a line feed is 0, and 1 taken
-// from each byte sets the high bit of a byte that had none, if the byte was 0. A 0 borrows from the byte after it, so
-// that only the first mark is sure to be a line feed.
+// Looks at all eight bytes of a word at once. With the bits of a line feed turned in each byte, a line feed is 0; and
+// where 1 is taken from each byte, a 0 alone gains its high bit. But a 0 borrows from the byte after it, so that only
+// the first byte with such a mark is sure to be a line feed.
 pub fn first(w: u64) -> Feed
     ensures { λ r. ⌜ r ≡ firstFeed w ⌝ }
 {

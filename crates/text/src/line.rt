@@ -23,8 +23,8 @@ pub fn place_of(s: &[u8], at: usize, byte: u8) -> usize
     i
 }
 
-// Where the line that begins at a place ends: at its line feed, or at the end of the text. Eight bytes are looked at as
-// one word, the last few by byte.
+// Where the line that begins at a place ends: at its line feed, or at the end of the text. Eight bytes are looked at
+// as one word, the last few by byte.
 pub fn end(s: &[u8], at: usize) -> usize
     requires { ⌜ at ≤ length (now s) ⌝ }
     ensures { λ r. ⌜ (r ≡ lineEnd (now (s .entry)) at) × (at ≤ r) × (r ≤ length (now (s .entry))) ⌝ }
