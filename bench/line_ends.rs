@@ -45,7 +45,7 @@ fn walk(text: &[u8], end: End) -> [usize; 2] {
     [lines, sum]
 }
 
-// Every place of random texts of up to 64 bytes, most of them line feeds or near to one; gives how many were compared.
+// Every place of random texts of up to 64 bytes, often line feeds or near to one; gives how many were compared.
 fn compare() -> usize {
     let mut random = Random(SEED);
     let mut compared = 0;
@@ -81,14 +81,11 @@ fn main() {
     for (name, text) in texts() {
         let text = text.as_bytes();
         let [lines, sum] = walk(text, in_rust);
-        let mut times = [vec![], vec![], vec![]];
-        for _ in 0..ROUNDS {
-            for (times, end) in times.iter_mut().zip(ENDS) {
-                times.push(time(20, || assert_eq!(walk(black_box(text), end), [lines, sum])) / 1e3);
-            }
-        }
-        let [word, byte, rust] = times.map(median);
-        let (length, to_byte, to_rust) = (text.len(), word / byte, word / rust);
+        let round = || ENDS.map(|end| time(20, || assert_eq!(walk(black_box(text), end), [lines, sum])) / 1e3);
+        let rounds: Vec<[f64; 3]> = (0..ROUNDS).map(|_| round()).collect();
+        let of = |figure: fn(&[f64; 3]) -> f64| median(rounds.iter().map(figure).collect());
+        let (word, byte, rust) = (of(|r| r[0]), of(|r| r[1]), of(|r| r[2]));
+        let (length, to_byte, to_rust) = (text.len(), of(|r| r[0] / r[1]), of(|r| r[0] / r[2]));
         println!("| {name} | {length} | {lines} | {word:.2} | {byte:.2} | {to_byte:.2} | {rust:.2} | {to_rust:.2} |");
     }
 }

@@ -1,5 +1,5 @@
-//! Where line feeds stand in texts that are read: among eight bytes, taken on from the line's beginning, or among the
-//! last bytes of a text, which are fewer than eight.
+//! Where line feeds stand in texts that are read: among eight bytes, counted by eights from the line's beginning, or
+//! among the last bytes of a text, which are fewer than eight.
 
 /// Bytes next to the line feed in number, a bit away from it, or above 127.
 pub const NEARLY_FEEDS: [u8; 6] = [0x09, 0x0b, 0x1a, 0x8a, 0x8b, 0xff];

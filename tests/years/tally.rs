@@ -110,7 +110,7 @@ impl Tally {
         let too_few = self.roundings.counts().filter(|(_, count)| count * 100 < self.compared * LEAST_ROUNDINGS);
         missing.extend(too_few.map(|(name, count)| format!("rounded: {name}: {count}, too few")));
         let unmet = self.feeds.counts().into_iter().filter(|(_, count)| *count == 0);
-        missing.extend(unmet.map(|(name, _)| format!("no line feed met: {name}")));
+        missing.extend(unmet.map(|(name, _)| format!("line feeds: none met: {name}")));
         if self.all * 100 < self.compared * LEAST_FULL_YEARS {
             missing.push("too few years with cessions, recoveries of both tiers and premium".to_string());
         }

@@ -64,17 +64,19 @@ pub record Corners : Type 0 where
   pub carriage-return : lineNumbers (bytes "(band A L)") (bytes "(band 50 100)" ++ (13 ∷ [])) ≡ none
   pub nul : lineNumbers (bytes "(band A L)") (bytes "(band 50 100)" ++ (0 ∷ [])) ≡ none
   pub high-byte : lineNumbers (bytes "(band A L)") (bytes "(band 50 100)" ++ (255 ∷ [])) ≡ none
-  -- the first line feed of eight bytes: at either end; of two the first; and among bytes one off a line feed, next to
-  -- one, or above 127
+  -- the first line feed of eight bytes: at either end; of two the first; and among bytes that are next to it in
+  -- number, a bit away from it, or above 127
   pub feed-first : firstFeed 10 ≡ First 0
   pub feed-last : firstFeed (10 * 2 ^ 56) ≡ First 7
   pub feed-of-two : firstFeed (97 + 10 * 2 ^ 8 + 10 * 2 ^ 32) ≡ First 1
   pub feed-after-letters : firstFeed (97 + 98 * 2 ^ 8 + 10 * 2 ^ 16 + 11 * 2 ^ 24) ≡ First 2
   pub feed-after-high : firstFeed (138 + 255 * 2 ^ 8 + 128 * 2 ^ 16 + 129 * 2 ^ 24 + 10 * 2 ^ 32) ≡ First 4
-  pub no-feed-near : firstFeed (11 + 9 * 2 ^ 8 + 11 * 2 ^ 16 + 8 * 2 ^ 24 + 2 * 2 ^ 32) ≡ None
+  pub no-feed-near : firstFeed (11 + 9 * 2 ^ 8 + 13 * 2 ^ 16 + 8 * 2 ^ 24 + 2 * 2 ^ 32 + 26 * 2 ^ 40 + 42 * 2 ^ 48
+      + 74 * 2 ^ 56) ≡ None
   pub no-feed-high : firstFeed (138 + 139 * 2 ^ 8 + 137 * 2 ^ 16 + 138 * 2 ^ 56) ≡ None
   pub no-feed-ones : firstFeed (2 ^ 64 - 1) ≡ None
   pub no-feed-zeros : firstFeed 0 ≡ None
+  pub no-feed-past-eight : firstFeed (10 * 2 ^ 64) ≡ None
   -- where a line ends, from its own place on: at the seventh byte, the eighth, the ninth; at the end of the text
   pub end-in-eight : lineEnd (bytes "(a 12)\n\n") 0 ≡ 6
   pub end-of-eight : lineEnd (bytes "(a 123)\n(a 4)\n") 0 ≡ 7
@@ -137,6 +139,7 @@ corners = record {
   no-feed-high = refl;
   no-feed-ones = refl;
   no-feed-zeros = refl;
+  no-feed-past-eight = refl;
   end-in-eight = refl;
   end-of-eight = refl;
   end-after-eight = refl;
