@@ -16,7 +16,7 @@ use Rattle.text.specs.Feed.{firstFeed}
 use Rattle.text.specs.declared.feed.Feed.the-variants.{First, None}
 use Rattle.text.proofs.Words.{repeated, next-byte}
 use Rattle.text.proofs.Marks.{all-below, at-below}
-use Rattle.text.proofs.Zeros.{bits, zeros-stop, zeros-skip}
+use Rattle.text.proofs.Zeros.{bits, byte-stop, byte-skip}
 use Rattle.text.proofs.FirstFeed.{NoneIn, FirstIn, first-exactly, none-exactly}
 
 -- a number above j bytes
@@ -103,8 +103,7 @@ module _ (j w m : ℕ) where
   found-here e f = record {
     none = λ z. absurd (omega arith);
     first = λ z.
-        let place : trailingZeros (bits (suc j)) m / 8 ≡ 0 = omega (arith, zeros-stop (bits j) m (λ d. omega arith)) in
-        rw place
+        rw (byte-stop (bits j) m (λ d. omega arith))
         (record {
           within = (omega arith, omega arith);
           there = omega arith;
@@ -123,13 +122,10 @@ module _ (j w m : ℕ) where
       first = λ e. one-on (f .first (λ d. e (omega arith)));
     }
       where
-        place : trailingZeros (bits (suc j)) m / 8 ≡ suc (trailingZeros (bits j) (m / 256) / 8)
-        place = omega (arith, zeros-skip (bits j) m z)
-
         one-on : FirstIn (byteOf (w / 256)) 0 j (trailingZeros (bits j) (m / 256) / 8)
             → FirstIn (byteOf w) 0 (suc j) (trailingZeros (bits (suc j)) m / 8)
         one-on g =
-            rw place
+            rw (byte-skip (bits j) m z)
             (record {
               within = (omega arith, omega (arith, g .within .1));
               there = next-byte w _ ∙ g .there;

@@ -71,8 +71,9 @@ pub record Corners : Type 0 where
   pub feed-of-two : firstFeed (97 + 10 * 2 ^ 8 + 10 * 2 ^ 32) ≡ First 1
   pub feed-after-letters : firstFeed (97 + 98 * 2 ^ 8 + 10 * 2 ^ 16 + 11 * 2 ^ 24) ≡ First 2
   pub feed-after-high : firstFeed (138 + 255 * 2 ^ 8 + 128 * 2 ^ 16 + 129 * 2 ^ 24 + 10 * 2 ^ 32) ≡ First 4
-  pub no-feed-near : firstFeed (11 + 9 * 2 ^ 8 + 13 * 2 ^ 16 + 8 * 2 ^ 24 + 2 * 2 ^ 32 + 26 * 2 ^ 40 + 42 * 2 ^ 48
-      + 74 * 2 ^ 56) ≡ None
+  pub no-feed-near : firstFeed (9 + 11 * 2 ^ 8 + 12 * 2 ^ 16 + 13 * 2 ^ 24) ≡ None
+  pub no-feed-by-a-bit : firstFeed (11 + 8 * 2 ^ 8 + 14 * 2 ^ 16 + 2 * 2 ^ 24 + 26 * 2 ^ 32 + 42 * 2 ^ 40 + 74 * 2 ^ 48
+      + 138 * 2 ^ 56) ≡ None
   pub no-feed-high : firstFeed (138 + 139 * 2 ^ 8 + 137 * 2 ^ 16 + 138 * 2 ^ 56) ≡ None
   pub no-feed-ones : firstFeed (2 ^ 64 - 1) ≡ None
   pub no-feed-zeros : firstFeed 0 ≡ None
@@ -136,6 +137,7 @@ corners = record {
   feed-after-letters = refl;
   feed-after-high = refl;
   no-feed-near = refl;
+  no-feed-by-a-bit = refl;
   no-feed-high = refl;
   no-feed-ones = refl;
   no-feed-zeros = refl;

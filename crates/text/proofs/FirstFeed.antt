@@ -31,7 +31,7 @@ module _ (byte : ℕ → ℕ) where
   none-more k e b f i l m =
       by-eq i k (λ d. subst (λ (x : ℕ). byte x ≡ 10 → ⊥) (sym d) b) (λ d. f i (omega arith) m)
 
-  pub first-told : (n k e r : ℕ) → e ≡ k + n → feedFrom byte k n ≡ First r → FirstIn byte k e r
+  first-told : (n k e r : ℕ) → e ≡ k + n → feedFrom byte k n ≡ First r → FirstIn byte k e r
   unfolding feedFrom
   first-told zero k e r q h = let z : _≡_ {A = ℕ} 0 1 = cc in absurd (omega arith)
   first-told (suc n) k e r q h =
@@ -47,7 +47,7 @@ module _ (byte : ℕ → ℕ) where
         before = none-more k r b (f .before);
       })
 
-  pub none-told : (n k e : ℕ) → e ≡ k + n → feedFrom byte k n ≡ None → NoneIn byte k e
+  none-told : (n k e : ℕ) → e ≡ k + n → feedFrom byte k n ≡ None → NoneIn byte k e
   unfolding feedFrom
   none-told zero k e q h = λ i l m. absurd (omega arith)
   none-told (suc n) k e q h =
@@ -56,7 +56,7 @@ module _ (byte : ℕ → ℕ) where
       let z : _≡_ {A = ℕ} 0 1 = cc in absurd (omega arith))
       (λ b. none-more k e b (none-told n (suc k) e (omega arith) (simp (feedFrom, ne-eqb _ _ b) at h)))
 
-  pub first-found : (n k e r : ℕ) → e ≡ k + n → FirstIn byte k e r → feedFrom byte k n ≡ First r
+  first-found : (n k e r : ℕ) → e ≡ k + n → FirstIn byte k e r → feedFrom byte k n ≡ First r
   unfolding feedFrom
   first-found zero k e r q f = absurd (omega (arith, f .within .0, f .within .1))
   first-found (suc n) k e r q f =
@@ -71,7 +71,7 @@ module _ (byte : ℕ → ℕ) where
         before = λ i l m. f .before i (omega arith) m;
       })))
 
-  pub none-found : (n k e : ℕ) → e ≡ k + n → NoneIn byte k e → feedFrom byte k n ≡ None
+  none-found : (n k e : ℕ) → e ≡ k + n → NoneIn byte k e → feedFrom byte k n ≡ None
   unfolding feedFrom
   none-found zero k e q f = refl
   none-found (suc n) k e q f =

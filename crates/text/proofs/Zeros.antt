@@ -25,10 +25,10 @@ zeros-half k m b f =
     (λ e. let o : m % 2 ≡ 1 = omega arith in omega (arith, zeros-odd k m o))
 
 -- eight bits more
-abbrev pub more : ℕ → ℕ
+abbrev more : ℕ → ℕ
 more k = suc (suc (suc (suc (suc (suc (suc (suc k)))))))
 
-pub zeros-stop : (k m : ℕ) → (m % 256 ≡ 0 → ⊥) → trailingZeros (more k) m < 8
+zeros-stop : (k m : ℕ) → (m % 256 ≡ 0 → ⊥) → trailingZeros (more k) m < 8
 zeros-stop k m n =
     zeros-half _ m 7 (λ a.
     zeros-half _ (m / 2) 6 (λ b.
@@ -39,7 +39,7 @@ zeros-stop k m n =
     zeros-half _ (m / 2 / 2 / 2 / 2 / 2 / 2) 1 (λ g.
     zeros-half _ (m / 2 / 2 / 2 / 2 / 2 / 2 / 2) 0 (λ h. absurd (n (omega arith))))))))))
 
-pub zeros-skip : (k m : ℕ) → m % 256 ≡ 0 → trailingZeros (more k) m ≡ more (trailingZeros k (m / 256))
+zeros-skip : (k m : ℕ) → m % 256 ≡ 0 → trailingZeros (more k) m ≡ more (trailingZeros k (m / 256))
 zeros-skip k m z =
     zeros-even _ m (omega arith)
     ∙ ap suc (zeros-even _ (m / 2) (omega arith)
@@ -58,6 +58,14 @@ abbrev pub bits : ℕ → ℕ
 bits zero = 0
 bits (suc j) = more (bits j)
 
+-- the byte that has the first bit: the lowest, or one further than among those after it
+module _ (k m : ℕ) where
+  pub byte-stop : (m % 256 ≡ 0 → ⊥) → trailingZeros (more k) m / 8 ≡ 0
+  byte-stop n = omega (arith, zeros-stop k m n)
+
+  pub byte-skip : m % 256 ≡ 0 → trailingZeros (more k) m / 8 ≡ suc (trailingZeros k (m / 256) / 8)
+  byte-skip z = omega (arith, zeros-skip k m z)
+
 -- r is the place of the first of j bytes of m that is not 0, or j
 record First (m j r : ℕ) : Type 0 where
   within : r ≤ j
@@ -67,22 +75,19 @@ record First (m j r : ℕ) : Type 0 where
 module _ (j k m : ℕ) where
   first-stop : (m % 256 ≡ 0 → ⊥) → First m (suc j) (trailingZeros (more k) m / 8)
   first-stop n =
-      let z : trailingZeros (more k) m / 8 ≡ 0 = omega (arith, zeros-stop k m n) in
-      rw z (record { within = omega arith; before = λ i l. absurd (omega arith); there = λ l e. n (omega arith) })
+      rw (byte-stop k m n)
+      (record { within = omega arith; before = λ i l. absurd (omega arith); there = λ l e. n (omega arith) })
 
   first-skip : m % 256 ≡ 0 → First (m / 256) j (trailingZeros k (m / 256) / 8)
       → First m (suc j) (trailingZeros (more k) m / 8)
   first-skip e f =
-      rw place
+      rw (byte-skip k m e)
       (record {
         within = omega (arith, f .within);
         before = passed-by;
         there = λ l d. f .there (omega arith) (sym (next-byte m _) ∙ d);
       })
     where
-      place : trailingZeros (more k) m / 8 ≡ suc (trailingZeros k (m / 256) / 8)
-      place = omega (arith, zeros-skip k m e)
-
       passed-by : (i : ℕ) → i < suc (trailingZeros k (m / 256) / 8) → byteOf m i ≡ 0
       passed-by zero l = omega arith
       passed-by (suc i) l = next-byte m i ∙ f .before i (omega arith)
