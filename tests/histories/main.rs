@@ -13,6 +13,8 @@ mod corrupt;
 mod damage;
 #[path = "../shared/draw.rs"]
 mod draw;
+#[path = "../shared/feeds.rs"]
+mod feeds;
 mod history;
 mod in_two;
 mod ledger;

@@ -4,7 +4,7 @@ use crate::aim;
 use crate::boundary::Room;
 use crate::calculation::{Refusal, EVENTS_BYTES};
 use crate::corrupt;
-use crate::damage::{self, Fault};
+use crate::damage::{self, Fault, NEARLY_FEEDS};
 use crate::draw::{self, line, Lines, Table, LARGEST_AMOUNT};
 use crate::ledger::Ledger;
 use crate::random::Random;
@@ -50,7 +50,7 @@ const RULES: [Rule; 14] = [
     Rule::Room,
 ];
 
-const FAULTS: [Fault; 9] = [
+const FAULTS: [Fault; 10] = [
     damage::form,
     damage::range,
     damage::count,
@@ -58,6 +58,7 @@ const FAULTS: [Fault; 9] = [
     damage::treaty,
     damage::treaty,
     damage::events_line,
+    line_end,
     damage::line_ends,
     damage::bytes,
 ];
@@ -203,6 +204,11 @@ fn first_day(random: &mut Random, lines: &mut Lines, last_day: u64) {
         Some(line) => damage::replace_number(line, 0, day.to_string().as_bytes()),
         None => lines.push(line(format!("(event {day})"))),
     }
+}
+
+/// A line that does not end with one line feed.
+fn line_end(random: &mut Random, lines: &mut Lines, place: usize) {
+    damage::end_otherwise(&mut lines[place], random.place(NEARLY_FEEDS.len() + 1));
 }
 
 /// What a run with a buffer of length 0 comes to: 7 and the length needed where no other rule is broken.

@@ -1,6 +1,7 @@
 //! What the histories compared so far have reached.
 
 use crate::aim::bounds;
+use crate::feeds::Feeds;
 use crate::ledger::Ledger;
 use crate::limits::Limits;
 use crate::raw::{Answer, Programme};
@@ -55,6 +56,7 @@ pub struct Tally {
     met: ByBound,
     pub limits: Limits,
     pub roundings: Roundings,
+    feeds: Feeds,
     /// Of the history under way.
     reaches: [bool; 3],
     meets: [bool; 3],
@@ -71,6 +73,11 @@ impl Tally {
         } else {
             *self.refused.entry(answer.refusal).or_default() += 1;
             self.one_short += usize::from(answer.refusal == 7 && answer.number == length + 1);
+        }
+        match answer.refusal {
+            0 => self.feeds.count(&run.events, None),
+            10 => self.feeds.count(&run.events, Some(answer.number as usize)),
+            _ => {}
         }
     }
 
@@ -112,6 +119,7 @@ impl Tally {
         println!("{}", counts.join("; "));
         println!("histories: {}", self.limits.shown());
         println!("histories: {}", self.roundings.shown());
+        println!("histories: {}", self.feeds.shown());
     }
 
     /// What the histories should have reached and did not.
@@ -135,6 +143,7 @@ impl Tally {
             counts.push((format!("{name} used up to a cent"), self.met[place], LEAST_MET));
         }
         let too_few = counts.into_iter().filter(|(_, count, least)| count * 100 < self.histories * least);
-        too_few.map(|(name, count, least)| format!("{name}: {count}, not {least} for a hundred histories")).collect()
+        let too_few = too_few.map(|(name, count, least)| format!("{name}: {count}, not {least} for a hundred histories"));
+        too_few.chain(self.feeds.unmet().map(|name| format!("line feeds: none met: {name}"))).collect()
     }
 }

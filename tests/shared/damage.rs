@@ -18,6 +18,9 @@ pub const LAYER: [Range; 7] =
     [AMOUNT, (1, LARGEST_AMOUNT), (0, 1_000_000_000_000_000), (0, 20), (0, 20_000), (0, 1_000_000_000_000), SHARE];
 const LOSS: [Range; 3] = [(0, 8), (1, LARGEST_AMOUNT), AMOUNT];
 
+/// Bytes next to the line feed in number, a bit away from it, or above 127.
+pub const NEARLY_FEEDS: [u8; 8] = [0x08, 0x09, 0x0b, 0x0e, 0x1a, 0x8a, 0x8b, 0xff];
+
 /// The ranges of a line's numbers in order, as many as the line has.
 pub fn ranges(line: &[u8]) -> Vec<Range> {
     let form: Vec<Range> = if line.starts_with(b"(quota") {
@@ -187,6 +190,17 @@ pub fn events_line(random: &mut Random, lines: &mut Lines, place: usize) {
     let place = place.max(1).min(lines.len() - 1);
     faults[first](random, lines, place);
     faults[second](random, lines, place);
+}
+
+/// Ends a line with the byte at a place of those that are nearly a line feed; past them, with two line feeds more.
+pub fn end_otherwise(line: &mut Vec<u8>, nearly: usize) {
+    match NEARLY_FEEDS.get(nearly) {
+        Some(byte) => {
+            line.pop();
+            line.push(*byte);
+        }
+        None => line.extend(b"\n\n"),
+    }
 }
 
 /// The lines with another end in place of the line feed.

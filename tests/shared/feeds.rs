@@ -1,8 +1,7 @@
 //! Where line feeds stand in texts that are read: among eight bytes, counted by eights from the line's beginning, or
 //! among the last bytes of a text, which are fewer than eight.
 
-/// Bytes next to the line feed in number, a bit away from it, or above 127.
-pub const NEARLY_FEEDS: [u8; 6] = [0x09, 0x0b, 0x1a, 0x8a, 0x8b, 0xff];
+use crate::damage::NEARLY_FEEDS;
 
 #[derive(Default)]
 pub struct Feeds {
@@ -48,15 +47,16 @@ impl Feeds {
         }
     }
 
-    /// What can be met, with its count.
-    pub fn counts(&self) -> Vec<(String, usize)> {
+    /// What can be met and was not.
+    pub fn unmet(&self) -> impl Iterator<Item = String> + '_ {
         let in_eight = self.in_eight.iter().enumerate().map(|(at, count)| (format!("place {at} of eight"), *count));
         let in_the_last = self.in_the_last.iter().enumerate();
         let in_the_last = in_the_last.map(|(at, count)| (format!("place {at} of the last"), *count));
         let nearly =
             NEARLY_FEEDS.iter().zip(self.nearly).map(|(byte, count)| (format!("byte {byte} in a line"), count));
         let two = [("two among eight".to_string(), self.of_two)];
-        in_eight.chain(in_the_last).chain(two).chain(nearly).collect()
+        let counts = in_eight.chain(in_the_last).chain(two).chain(nearly);
+        counts.filter(|(_, count)| *count == 0).map(|(name, _)| name)
     }
 
     /// The counts in a line.

@@ -2,9 +2,8 @@
 
 use crate::calculation::table::TABLE_BYTES;
 use crate::calculation::EVENTS_BYTES;
-use crate::damage::{self, Fault};
+use crate::damage::{self, Fault, NEARLY_FEEDS};
 use crate::draw::{self, line, Lines, Table};
-use crate::feeds::NEARLY_FEEDS;
 use crate::printed::printed;
 use crate::random::Random;
 use crate::table_damage::{self, MISPLACED};
@@ -110,7 +109,8 @@ impl Cases {
             26 => self.largest(),
             27 => self.damaged_table(table_damage::ninth),
             28 => self.misplaced(),
-            29 => self.misended(),
+            29 => self.misended(false),
+            30 => self.misended(true),
             _ => self.year(),
         }
     }
@@ -162,23 +162,24 @@ impl Cases {
         text_case(&lines, &events)
     }
 
-    /// A line of the events or of the table that ends with a byte which is nearly a line feed, each in turn, or
-    /// several line feeds after a line; no other fault.
-    fn misended(&mut self) -> Case {
-        let (table, mut events) = self.draw(3);
-        let mut lines = table.lines;
-        let turns = NEARLY_FEEDS.len() + 1;
-        match NEARLY_FEEDS.get(self.round % turns) {
-            Some(byte) => {
-                let in_table = self.round / turns % 2 == 1 && !lines.is_empty();
-                let text = if in_table { &mut lines } else { &mut events };
-                let place = self.random.place(text.len());
-                text[place].pop();
-                text[place].push(*byte);
-            }
-            None => events[0].extend(b"\n\n"),
-        }
+    /// A line of the events, or of the table, that does not end with one line feed, each way in turn; no other fault.
+    fn misended(&mut self, in_table: bool) -> Case {
+        let (mut lines, mut events) = self.draw_lines();
+        let text = if in_table { &mut lines } else { &mut events };
+        let nearly = self.round % (NEARLY_FEEDS.len() + 1);
+        let place = if nearly < NEARLY_FEEDS.len() { self.random.place(text.len()) } else { 0 };
+        damage::end_otherwise(&mut text[place], nearly);
         text_case(&lines, &events)
+    }
+
+    /// The lines of a table of two lines or more, and those of events.
+    fn draw_lines(&mut self) -> (Lines, Lines) {
+        loop {
+            let (table, events) = self.draw(3);
+            if table.lines.len() >= 2 {
+                return (table.lines, events);
+            }
+        }
     }
 
     fn damaged_events(&mut self, fault: Fault) -> Case {

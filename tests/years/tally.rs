@@ -34,7 +34,8 @@ pub struct Tally {
     all: usize,
     limits: Limits,
     roundings: Roundings,
-    feeds: Feeds,
+    table_feeds: Feeds,
+    events_feeds: Feeds,
 }
 
 /// The pairs of kinds in words.
@@ -49,8 +50,8 @@ impl Tally {
         let Some(amounts) = totals(printed) else {
             return self.count_refusal(table, events, printed);
         };
-        self.feeds.count(table, None);
-        self.feeds.count(events, None);
+        self.table_feeds.count(table, None);
+        self.events_feeds.count(events, None);
         if let Ok(programme) = read_table(table) {
             self.limits.count(&programme, events);
             self.roundings.count(&programme, events, printed);
@@ -68,9 +69,9 @@ impl Tally {
         let [refusal, second] = answer[..] else { return };
         *self.refused.entry(refusal).or_default() += 1;
         match refusal {
-            2 => self.feeds.count(table, Some(second as usize)),
+            2 => self.table_feeds.count(table, Some(second as usize)),
             4 => self.count_misplaced(table, second as usize),
-            10 => self.feeds.count(events, Some(second as usize)),
+            10 => self.events_feeds.count(events, Some(second as usize)),
             _ => {}
         }
     }
@@ -95,7 +96,8 @@ impl Tally {
         println!("years: out of order: {}", counts.collect::<Vec<String>>().join(", "));
         println!("years: {}", self.limits.shown());
         println!("years: {}", self.roundings.shown());
-        println!("years: {}", self.feeds.shown());
+        println!("years: tables: {}", self.table_feeds.shown());
+        println!("years: events: {}", self.events_feeds.shown());
     }
 
     /// What the years should have reached and did not.
@@ -109,8 +111,8 @@ impl Tally {
         missing.extend(too_few.map(|(name, count)| format!("event limits met: {name}: {count}, too few")));
         let too_few = self.roundings.counts().filter(|(_, count)| count * 100 < self.compared * LEAST_ROUNDINGS);
         missing.extend(too_few.map(|(name, count)| format!("rounded: {name}: {count}, too few")));
-        let unmet = self.feeds.counts().into_iter().filter(|(_, count)| *count == 0);
-        missing.extend(unmet.map(|(name, _)| format!("line feeds: none met: {name}")));
+        missing.extend(self.table_feeds.unmet().map(|name| format!("line feeds of tables: none met: {name}")));
+        missing.extend(self.events_feeds.unmet().map(|name| format!("line feeds of events: none met: {name}")));
         if self.all * 100 < self.compared * LEAST_FULL_YEARS {
             missing.push("too few years with cessions, recoveries of both tiers and premium".to_string());
         }
