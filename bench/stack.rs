@@ -1,7 +1,7 @@
 // The stack that a run takes: the part below the caller is painted, and what is no longer paint after a run was used.
 use crate::cases::Case;
-use crate::texts::EVENTS_BYTES;
 use crate::sides::ROOM;
+use crate::texts::EVENTS_BYTES;
 use std::hint::black_box;
 
 const PAINT: u8 = 0xa5;
