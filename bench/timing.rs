@@ -1,4 +1,5 @@
-// How the benchmarks of runs and of line ends take times: in rounds, in which the sides take turns, and of all rounds the median.
+// How the benchmarks of runs and of line ends take times: in rounds, in which the sides take turns. Of all rounds the
+// median counts.
 use std::hint::black_box;
 use std::time::Instant;
 
