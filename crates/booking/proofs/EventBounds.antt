@@ -5,7 +5,7 @@ use mathlib.Core.Path.{_≡_}
 use mathlib.Core.List.{List, [], _∷_}
 use Prim.Native.Nat.{ℕ, _+_, _*_, _^_, _≤_}
 use native.Mathlib.Omega.{arith}
-use lib.ListN.{length, length-take}
+use lib.ListN.{length}
 use Rattle.lists.specs.Sums.{total}
 use Rattle.lists.specs.Each.{Each}
 use Rattle.lists.proofs.Bounds.{sum-le}
@@ -15,9 +15,8 @@ use Rattle.treaty.specs.Ranges.{LossInRange}
 use Rattle.treaty.specs.Losses.{grossOf, cededOfEach}
 use Rattle.treaty.proofs.Losses.{all-ceded-and-left}
 use Rattle.layer.specs.declared.record.Layer.{Layer}
-use Rattle.layer.specs.declared.tier.Tier.{Tier}
-use Rattle.layer.specs.Tier.{recoveriesThrough, chargesThrough, leftThrough, recoveriesBy, layersOf}
-use Rattle.layer.specs.Ranges.{Sound, Rising, SoundTier}
+use Rattle.layer.specs.Tier.{recoveriesThrough, chargesThrough, leftThrough, recoveriesBy}
+use Rattle.layer.specs.Ranges.{Sound, Rising}
 use Rattle.layer.proofs.Tiers.{recovered-and-left-through, charges-through-le, recoveries-le-subject}
 use Rattle.events.specs.Event.{Event}
 use Rattle.year.specs.Event.{Year, leftByTreaties, subjectOf, eventAmounts}
@@ -29,19 +28,12 @@ pub record RisingLayers (ls : List Layer) : Type 0 where
   pub each : Each Sound ls
   pub rising : Rising 0 ls
 
-pub tier-layers : (t : Tier) → SoundTier t → RisingLayers (layersOf t)
-tier-layers t s = record {
-  few = omega (arith, length-take (t .count) (t .layers), s .count);
-  each = s .each;
-  rising = s .rising;
-}
-
 -- what they charge
-pub charges-small : (ys : List ℕ) (ls : List Layer) → RisingLayers ls → chargesThrough ys ls ≤ 32 * 10 ^ 13
+charges-small : (ys : List ℕ) (ls : List Layer) → RisingLayers ls → chargesThrough ys ls ≤ 32 * 10 ^ 13
 charges-small ys ls s = omega (arith, charges-through-le ys ls (s .each), s .few)
 
 -- what the losses of an event come to
-pub gross-small : (xs : List Loss) → Each LossInRange xs → length xs ≤ 64 → grossOf xs ≤ 64 * 10 ^ 13
+gross-small : (xs : List Loss) → Each LossInRange xs → length xs ≤ 64 → grossOf xs ≤ 64 * 10 ^ 13
 gross-small xs r few =
     let each = sum-le LossInRange (λ (x : Loss). x .amount) (10 ^ 13) (λ x h. h .amount) xs r in
     omega (arith, each)

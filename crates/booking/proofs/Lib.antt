@@ -1,5 +1,5 @@
 pub mod EventBounds
-pub mod EventBooked
+pub mod Entering
 pub mod Idle
-pub mod Booking
-pub mod Beginning
+pub mod Totals
+pub mod EventsBooking

@@ -1,2 +1,2 @@
-// How far a run has come, and an event booked in it.
-pub mod progress;
+// A run's events booked: what they come to, and their lines.
+pub mod book;

@@ -1,5 +1,6 @@
-pub mod Writing
 pub mod Stating
+pub mod Writing
 pub mod RunLines
 pub mod Placing
 pub mod RunTests
+pub mod LayingOut

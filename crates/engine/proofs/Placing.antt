@@ -7,16 +7,15 @@ use native.Mathlib.Omega.{arith}
 use lib.ListN.{length}
 use Rattle.answer.specs.Outcome.{Outcome, refused, bufferAfter}
 use Rattle.answer.proofs.Outcomes.{too-long}
-use Rattle.programme.specs.declared.contract.Programme.{Programme}
-use Rattle.programme.specs.Contracts.{Contracts, treatiesIn, contractsIn}
+use Rattle.programme.specs.Contracts.{Contracts}
 use Rattle.text.proofs.Puts.{no-bytes}
 use Rattle.events.specs.Event.{formsOf}
 use Rattle.events.specs.Read.{EventsRead, turnedDown, events, readFrom}
 use Rattle.year.specs.declared.Standing.{Standing}
 use Rattle.year.specs.Statement.{Statement, statementText}
 use Rattle.year.specs.Run.{Left, statementFitted, runThrough}
-use Rattle.statement.specs.Shows.{leastBytes}
-use Rattle.statement.proofs.Shown.{statement-long}
+use Rattle.statement.specs.LineKinds.{leastBytes}
+use Rattle.statement.proofs.Least.{statement-long}
 use Rattle.engine.specs.declared.run.Ran.{Ran}
 use Rattle.engine.specs.Run.{ranOf, RanAs, runLines}
 
@@ -37,10 +36,10 @@ module _ (c : Contracts) (s : Standing) (room : ℕ) (h : room < leastBytes) whe
   left-alone (events es) d = rw (too-short room h)
 
 -- so a run with no bytes of the buffer, put back as e before the others, is that with the whole
-pub as-without : (p : Programme) (s : Standing) (text d e : List ℕ) (r : Ran) → length d < leastBytes
-    → r ≡ ranOf (runLines p s text 0) s → length e ≡ 0 → RanAs (runLines p s text (length d)) s d (e ++ d) r
-as-without p s text d e r h a none =
-    let read = readFrom (treatiesIn (p .treaties)) 1 (s .day) (formsOf text) in (
-      a ∙ ap (λ (o : Outcome Left). ranOf o s) (as-none (contractsIn p) s (length d) h read),
-      no-bytes e d none ∙ left-alone (contractsIn p) s (length d) h read d,
+pub as-without : (c : Contracts) (s : Standing) (text d e : List ℕ) (r : Ran) → length d < leastBytes
+    → r ≡ ranOf (runLines c s text 0) s → length e ≡ 0 → RanAs (runLines c s text (length d)) s d (e ++ d) r
+as-without c s text d e r h a none =
+    let read = readFrom (c .treaties) 1 (s .day) (formsOf text) in (
+      a ∙ ap (λ (o : Outcome Left). ranOf o s) (as-none c s (length d) h read),
+      no-bytes e d none ∙ left-alone c s (length d) h read d,
     )

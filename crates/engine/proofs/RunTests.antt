@@ -15,7 +15,7 @@ use Rattle.year.specs.declared.Standing.{Standing}
 use Rattle.year.specs.Standing.{standingPasses}
 use Rattle.year.specs.Run.{runFrom, runOf}
 use Rattle.engine.specs.declared.run.Ran.{Ran}
-use Rattle.engine.specs.Run.{ranOf, RanAs, runLines, CanRun}
+use Rattle.engine.specs.Run.{ranOf, RanAs, runLines}
 
 module _ (p : Programme) (s : Standing) (text d : List ℕ) (t : Bool) (a : t ≡ valid p) where
   pub invalid : t ≡ false → (r : Ran) → r ≡ ranOf (refused 6 0) s → RanAs (runOf p s text (length d)) s d d r
@@ -36,9 +36,6 @@ module _ (p : Programme) (s : Standing) (text d : List ℕ) (t : Bool) (a : t �
         rw (from, eight) (e, refl)
 
     module _ (g : u ≡ true) where
-      pub can-run : (n : ℕ) → length text ≤ n → CanRun n p s text
-      can-run n h = record { programme = sym a ∙ f; standing = sym b ∙ g; short = h }
-
       pub too-long : 65536 < length text → (r : Ran) → r ≡ ranOf (refused 9 0) s
           → RanAs (runOf p s text (length d)) s d d r
       unfolding runFrom eventsOf
@@ -47,10 +44,10 @@ module _ (p : Programme) (s : Standing) (text d : List ℕ) (t : Bool) (a : t �
           simp (runFrom, sym b ∙ g, eventsOf, lt-ltb 65536 (length text) h) in
           rw (from, nine) (e, refl)
 
-      pub by-lines : length text ≤ 65536 → (d′ : List ℕ) (r : Ran) → RanAs (runLines p s text (length d)) s d d′ r
-          → RanAs (runOf p s text (length d)) s d d′ r
+      pub by-lines : length text ≤ 65536 → (d′ : List ℕ) (r : Ran)
+          → RanAs (runLines (contractsIn p) s text (length d)) s d d′ r → RanAs (runOf p s text (length d)) s d d′ r
       unfolding runFrom eventsOf
       by-lines h d′ r e =
-          let through : runFrom (contractsIn p) s text (length d) ≡ runLines p s text (length d) =
+          let through : runFrom (contractsIn p) s text (length d) ≡ runLines (contractsIn p) s text (length d) =
           simp (runFrom, sym b ∙ g, eventsOf, le-ltb 65536 (length text) h) in
           rw (from, through) e

@@ -1,20 +1,24 @@
 -- A statement measured and, if it fits, written: the answer, the standing and the buffer after it.
 -- Assumes nothing.
-use mathlib.Core.Path.{_≡_, refl}
+use mathlib.Core.Path.{_≡_, refl, subst}
 use mathlib.Core.List.{List}
-use Prim.Native.Nat.{ℕ, _≤_, _<_}
+use Prim.Native.Nat.{ℕ, _+_, _≤_, _<_}
 use native.Mathlib.Omega.{arith}
 use lib.ListN.{length}
 use Rattle.text.specs.Buffer.{Put}
 use Rattle.answer.specs.Outcome.{refused}
 use Rattle.answer.proofs.Outcomes.{too-long, put-written, put-after}
 use Rattle.year.specs.declared.Standing.{Standing}
-use Rattle.year.specs.Statement.{Statement, statementText}
+use Rattle.programme.specs.Contracts.{Contracts}
+use Rattle.events.specs.Event.{Event, lastDay}
+use Rattle.year.specs.Event.{yearAfter}
+use Rattle.year.specs.Standing.{standingOf, yearOf}
+use Rattle.year.specs.Statement.{Statement, statementOf, statementText}
 use Rattle.year.specs.Run.{statementFitted}
-use Rattle.statement.specs.declared.print.Counts.{Counts}
-use Rattle.statement.specs.Shows.{Shows}
+use Rattle.booking.specs.Book.{contractsFrom, linesRoom}
 use Rattle.engine.specs.declared.run.Ran.{Ran}
-use Rattle.engine.specs.Run.{ranOf, writtenRan, RanAs}
+use Rattle.engine.specs.declared.run.Stated.{Stated}
+use Rattle.engine.specs.Run.{ranOf, writtenRan, RanAs, StatedAs, restRoom, runEvents}
 
 module _ (t : Statement) (lent after : Standing) (d : List ℕ) where
   -- the statement's text was put into a buffer that holds it, and has n bytes
@@ -40,20 +44,35 @@ module _ (t : Statement) (lent after : Standing) (d : List ℕ) where
         let same : Put d 0 (statementText t) d′ n = record { place = omega (arith, size); bytes = q .bytes } in
         in-full same h
 
--- as the code has it: measuring and writing speak of every statement that the numbers show
-module _ (ns : List ℕ) (c : Counts) (lent after : Standing) (d : List ℕ) where
-  pub at-once : {d′ : List ℕ} {n most : ℕ} → ((t : Statement) → Shows t ns c → Put d 0 (statementText t) d′ n)
-      → n ≤ most → most ≤ length d → (r : Ran) → r ≡ writtenRan n after → (t : Statement) → Shows t ns c
-      → RanAs (statementFitted (length d) t after) lent d d′ r
-  at-once q h l r e t s = rw e (in-full t lent after d (q t s) (omega arith))
+-- as the code has it, of events from a standing on
+module _ (register risk cat : List ℕ) (s : Standing) (es : List Event) where
+  abbrev c : Contracts
+  c = contractsFrom register risk cat
 
-  module _ {n : ℕ} (measured : (t : Statement) → Shows t ns c → n ≡ length (statementText t)) where
-    pub not-written : length d < n → (r : Ran) → r ≡ ranOf (refused 7 n) lent → (t : Statement) → Shows t ns c
-        → RanAs (statementFitted (length d) t after) lent d d r
-    not-written h r e t s = longer t lent after d (measured t s) h r e
+  abbrev shown : Statement
+  shown = statementOf (c .treaties) (yearOf c s) es
 
-    pub written : n ≤ length d → {d′ : List ℕ} {end : ℕ}
-        → ((t : Statement) → Shows t ns c → Put d 0 (statementText t) d′ end)
-        → (r : Ran) → r ≡ writtenRan n after → (t : Statement) → Shows t ns c
-        → RanAs (statementFitted (length d) t after) lent d d′ r
-    written h q r e t s = rw e (fits-in t lent after d (measured t s) h (q t s))
+  abbrev after : Standing
+  after = standingOf (yearAfter (c .treaties) (yearOf c s) es) (lastDay (s .day) es)
+
+  -- put into a buffer that surely holds it
+  pub at-once : {d d′ : List ℕ} {x : Stated} → StatedAs register risk cat s es d d′ x
+      → {room : ℕ} → linesRoom es + restRoom risk cat ≤ room → room ≤ length d
+      → (r : Ran) → r ≡ writtenRan (x .length) (x .standing) → RanAs (runEvents c s es (length d)) s d d′ r
+  at-once {d} a k h r e = rw (e, a .standing) (in-full shown s after d (a .text) (omega (arith, a .room)))
+
+  -- measured by putting it into no bytes e of the buffer d, which is b then
+  module _ {e e′ b d : List ℕ} {x : Stated} (a : StatedAs register risk cat s es e e′ x) (same : b ≡ d) where
+    size : x .length ≡ length (statementText shown)
+    size = omega (arith, a .text .place)
+
+    pub not-written : length b < x .length → (r : Ran) → r ≡ ranOf (refused 7 (x .length)) s
+        → RanAs (runEvents c s es (length d)) s d b r
+    not-written h r e =
+        subst (λ (f : List ℕ). RanAs (runEvents c s es (length f)) s f b r) same (longer shown s after b size h r e)
+
+    pub written : x .length ≤ length b → {b′ : List ℕ} {z : Stated} → StatedAs register risk cat s es b b′ z
+        → (r : Ran) → r ≡ writtenRan (x .length) (x .standing) → RanAs (runEvents c s es (length d)) s d b′ r
+    written h {b′} w r e =
+        subst (λ (f : List ℕ). RanAs (runEvents c s es (length f)) s f b′ r) same
+        (rw (e, a .standing) (fits-in shown s after b size h (w .text)))

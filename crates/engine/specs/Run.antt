@@ -1,30 +1,26 @@
--- Document 01, When a call is turned down: what a run gives back, and what it keeps on the way.
+-- Document 01, When a call is turned down: what a run gives back, and what its parts take.
 -- Assumes nothing.
-use mathlib.Core.Bool.{true}
 use mathlib.Core.Path.{_≡_}
-use mathlib.Core.List.{List, _++_, map}
-use Prim.Native.Nat.{ℕ, _+_, _*_, _^_, _≤_, _<_}
+use mathlib.Core.List.{List}
+use Prim.Native.Nat.{ℕ, _+_, _*_, _≤_}
 use lib.ListN.{length}
 use Rattle.lists.specs.Each.{Each}
 use Rattle.answer.specs.Outcome.{Outcome, answerOf, bufferAfter}
-use Rattle.treaty.specs.declared.Treaty.{Treaty}
-use Rattle.layer.specs.Tier.{layersOf}
-use Rattle.programme.specs.declared.contract.Treaties.{Treaties}
-use Rattle.programme.specs.declared.contract.Programme.{Programme}
-use Rattle.programme.specs.Contracts.{treatiesIn, contractsIn}
-use Rattle.programme.specs.Valid.{valid}
-use Rattle.events.specs.Event.{formsOf}
-use Rattle.events.specs.Read.{readFrom}
+use Rattle.text.specs.Buffer.{Put}
+use Rattle.treaty.specs.Ranges.{LossInRange}
+use Rattle.layer.specs.Numbers.{tierFrom}
+use Rattle.programme.specs.Contracts.{Contracts}
+use Rattle.events.specs.Event.{Event, formsOf, lastDay}
+use Rattle.events.specs.Read.{events, readFrom}
 use Rattle.year.specs.declared.Standing.{Standing}
-use Rattle.year.specs.Standing.{standingPasses}
-use Rattle.year.specs.Statement.{amountsNumbers, treatyShown, layerLineOf}
+use Rattle.year.specs.Event.{yearAfter}
+use Rattle.year.specs.Statement.{statementOf, statementText}
+use Rattle.year.specs.Standing.{standingOf, yearOf}
 use Rattle.year.specs.Run.{Left, runThrough, standingAfter}
-use Rattle.statement.specs.declared.row.Kind.the-variants.{Event}
-use Rattle.statement.specs.Numbers.{numbersOf, layersNumbers, cededLine}
-use Rattle.statement.specs.LineKinds.{widthOf, restWidth}
-use Rattle.booking.specs.declared.progress.Progress.{Progress}
-use Rattle.booking.specs.Records.{SoundRecords}
+use Rattle.losses.specs.Event.{eventsNumbers}
+use Rattle.booking.specs.Book.{contractsFrom, Lent, linesRoom}
 use Rattle.engine.specs.declared.run.Ran.{Ran}
+use Rattle.engine.specs.declared.run.Stated.{Stated}
 
 -- the answer of an outcome, and the standing after it
 abbrev pub ranOf : Outcome Left → Standing → Ran
@@ -39,31 +35,60 @@ abbrev pub RanAs : Outcome Left → Standing → (d d′ : List ℕ) → Ran →
 RanAs o lent d d′ r = (r ≡ ranOf o lent) × (d′ ≡ bufferAfter o d)
 
 -- what a run that is past 6, 8 and 9 comes to, with a buffer of `room` bytes
-abbrev pub runLines : Programme → Standing → (text : List ℕ) (room : ℕ) → Outcome Left
-runLines p s text room =
-    runThrough (contractsIn p) s room (readFrom (treatiesIn (p .treaties)) 1 (s .day) (formsOf text))
+abbrev pub runLines : Contracts → Standing → (text : List ℕ) (room : ℕ) → Outcome Left
+runLines c s text room = runThrough c s room (readFrom (c .treaties) 1 (s .day) (formsOf text))
 
--- the numbers of a statement's lines after the events', where place T of cs holds what treaty T cedes in this run
-abbrev pub restNumbers : List Treaty → (cs : List ℕ) → Progress → List ℕ
-restNumbers ts cs p =
-    numbersOf (map treatyShown (map (cededLine cs) ts))
-    ++ (layersNumbers 1 (map layerLineOf (layersOf (p .records .risk)))
-    ++ (layersNumbers 1 (map layerLineOf (layersOf (p .records .cat))) ++ amountsNumbers (p .total)))
+-- what a run of events comes to
+abbrev pub runEvents : Contracts → Standing → List Event → (room : ℕ) → Outcome Left
+runEvents c s es room = runThrough c s room (events es)
 
--- what keeping them takes
-pub record CanKeep (t : Treaties) (cs : List ℕ) (p : Progress) : Type 0 where
-  pub count : t .count ≤ 8
-  pub numbers : Each (λ (x : Treaty). x .number < length cs) (treatiesIn t)
-  pub records : SoundRecords (p .records)
-  pub place : p .next < 2 ^ 31
+-- The same of contracts lent as numbers, with the buffer d, which is d′ then: of a text, and of events.
+abbrev pub RanText : (register risk cat : List ℕ) → Standing → (text d d′ : List ℕ) → Ran → Type 0
+RanText register risk cat s text d d′ r =
+    RanAs (runLines (contractsFrom register risk cat) s text (length d)) s d d′ r
+
+abbrev pub RanEvents : (register risk cat : List ℕ) → Standing → List Event → (d d′ : List ℕ) → Ran → Type 0
+RanEvents register risk cat s es d d′ r =
+    RanAs (runEvents (contractsFrom register risk cat) s es (length d)) s d d′ r
+
+-- What a statement of events takes: contracts that a table may have, lent as numbers, a standing of them, and events in
+-- range, as numbers. They are at most those of a text of 65,536 bytes, three for 13 bytes.
+pub record CanState (register risk cat : List ℕ) (s : Standing) (ns : List ℕ) : Type 0 where
+  pub lent : Lent register risk cat (s .risk) (s .cat)
+  pub es : List Event
+  pub held : ns ≡ eventsNumbers es
+  pub losses : Each (λ (e : Event). Each LossInRange (e .losses)) es
+  pub few : Each (λ (e : Event). length (e .losses) ≤ 64) es
+  pub short : length ns ≤ 15124
+
+-- the most bytes that a statement's lines after the events' have: of nine places for treaties, of the layers and of the
+-- totals
+abbrev pub restRoom : (risk cat : List ℕ) → ℕ
+restRoom risk cat = 200 * (9 + length (tierFrom risk) + length (tierFrom cat) + 1)
+
+-- The statement of events from a standing on was put into d, which is d′ then; r is its length and the standing after
+-- it.
+pub record StatedAs (register risks cats : List ℕ) (s : Standing) (es : List Event) (d d′ : List ℕ) (r : Stated)
+    : Type 0 where
+  pub text : Put d 0
+      (statementText
+      (statementOf (contractsFrom register risks cats .treaties) (yearOf (contractsFrom register risks cats) s) es))
+      d′ (r .length)
+  pub standing : r .standing
+      ≡ standingOf
+      (yearAfter (contractsFrom register risks cats .treaties) (yearOf (contractsFrom register risks cats) s) es)
+      (lastDay (s .day) es)
+  pub room : r .length ≤ linesRoom es + restRoom risks cats
+
+-- a statement of the events has no more than `room` bytes
+pub record RoomFor (risk cat ns : List ℕ) (room : ℕ) : Type 0 where
+  pub enough : (es : List Event) → ns ≡ eventsNumbers es → linesRoom es + restRoom risk cat ≤ room
 
 -- a run that is past 6, 8 and 9, of a text of at most n bytes
-pub record CanRun (n : ℕ) (p : Programme) (s : Standing) (text : List ℕ) : Type 0 where
-  pub programme : valid p ≡ true
-  pub standing : standingPasses (contractsIn p) s ≡ true
+pub record CanRun (n : ℕ) (register risk cat : List ℕ) (s : Standing) (text : List ℕ) : Type 0 where
+  pub lent : Lent register risk cat (s .risk) (s .cat)
   pub short : length text ≤ n
 
--- a place for each of a statement's numbers: those of an event for each ten bytes of the text, and of all lines after
--- the events'
+-- a place for each number of the events: three for 13 bytes of the text
 pub record PlacesFor (text kept : List ℕ) : Type 0 where
-  pub room : widthOf Event * length text + 10 * restWidth ≤ 10 * length kept
+  pub room : 3 * length text ≤ 13 * length kept

@@ -1,28 +1,27 @@
-// A run: the lines of an events text are examined and its events booked, then the statement is measured, then, if it
-// fits, written.
+// A run: all lines of an events text are examined, then its events are booked and the statement's lines put as they
+// come. Where the statement might not fit into the buffer it is measured first.
+ghost use mathlib.Core.List.{List};
 ghost use mathlib.Core.Path.{_≡_};
-ghost use Prim.Native.Nat.{_+_, _≤_};
 ghost use lib.ListN.{length};
 ghost use Rattle.answer.specs.Outcome.{refused, bufferAfter};
-ghost use Rattle.programme.specs.Contracts.{treatiesIn};
-ghost use Rattle.text.specs.Buffer.{Put};
-ghost use Rattle.year.specs.Statement.{Statement};
-ghost use Rattle.year.specs.Run.{statementFitted, runOf};
-ghost use Rattle.statement.specs.LineKinds.{restWidth};
-ghost use Rattle.statement.specs.Shows.{Fits, Shows};
-ghost use Rattle.engine.specs.Run.{ranOf, writtenRan, RanAs, runLines, restNumbers, CanKeep, CanRun, PlacesFor};
+ghost use Rattle.events.specs.Event.{Event};
+ghost use Rattle.year.specs.Run.{runOf};
+ghost use Rattle.losses.specs.Event.{eventsNumbers};
+ghost use Rattle.engine.specs.Run.{ranOf, writtenRan, StatedAs, RanText, RanEvents};
+ghost use Rattle.engine.specs.Run.{CanState, RoomFor, CanRun, PlacesFor};
 use answer::Answer;
-use booking::progress::Progress;
+use booking::book;
 use events::rule;
-use events_pass::pass;
-use losses::register;
+use layer::numbers;
+use losses::kept;
+use losses::treaties;
+use losses::treaties::NUMBERS;
 use programme::contract::Programme;
-use programme::contract::Treaties;
 use programme::valid;
-use statement::keep;
+use standings::terms;
+use statement::lines;
 use statement::print;
-use statement::print::Counts;
-use statement::row;
+use statement::row::Kind;
 use year::Standing;
 
 // A short events text and a medium one have at most so many bytes.
@@ -30,12 +29,18 @@ const SHORT: usize = 1024;
 
 const MEDIUM: usize = 8192;
 
-// An event's line has at least so many bytes, its line feed included.
-const SHORTEST_LINE: usize = 10;
+// A loss form has at least so many bytes, and is kept as three numbers; an event's others take more bytes a number.
+const LOSS_BYTES: usize = 13;
 
 // What a run gives back: its answer, and the standing after it, which is the one lent where it is refused.
 pub struct Ran {
     pub answer: Answer,
+    pub standing: Standing,
+}
+
+// How many bytes a statement has, and the standing after it.
+pub struct Stated {
+    pub length: usize,
     pub standing: Standing,
 }
 
@@ -62,146 +67,208 @@ fn written(bytes: usize, after: Standing) -> Ran
     }
 }
 
-// The numbers of the lines after the events': of treaties, risk layers, catastrophe layers and totals.
-fn keep_rest(kept: &mut [u64], treaties: Treaties, cessions: &[u64], progress: Progress) -> usize
-    requires { ⌜ CanKeep treaties (now cessions) progress ⌝ }
-    ensures { λ r. ⌜ Put (now (kept .entry)) (progress .next)
-        (restNumbers (treatiesIn treaties) (now (cessions .entry)) progress) (now (kept .exit)) r
-        × (r ≤ progress .next + restWidth) ⌝ }
+// The statement of events from a standing on, put into a buffer as far as that goes.
+fn state(
+    register: &[u64],
+    risk: &[u64],
+    cat: &[u64],
+    events: &[u64],
+    standing: Standing,
+    out: &mut [u8],
+) -> Stated
+    requires { ⌜ CanState (now register) (now risk) (now cat) standing (now events) ⌝ }
+    ensures { λ r. ⌜ ((es : List Event) → now (events .entry) ≡ eventsNumbers es
+        → StatedAs (now (register .entry)) (now (risk .entry)) (now (cat .entry)) standing es (now (out .entry))
+        (now (out .exit)) r) ⌝ }
 {
-    let records = progress.records;
-    let risk = keep::keep_treaties(kept, progress.next, treaties, cessions);
-    let cat = keep::keep_layers(kept, risk, records.risk);
-    let last = keep::keep_layers(kept, cat, records.cat);
-    keep::keep_total(kept, last, progress.total)
+    let mut risk_spent = standing.risk;
+    let mut cat_spent = standing.cat;
+    let mut cessions = [0u64; NUMBERS];
+    let booked = book::book(
+        register,
+        risk,
+        cat,
+        events,
+        standing.day,
+        &mut risk_spent,
+        &mut cat_spent,
+        &mut cessions,
+        out,
+    );
+    let first = lines::put_treaties(out, booked.next, register, &cessions);
+    let second = lines::put_layers(out, first, Kind::Risk, risk, &risk_spent);
+    let third = lines::put_layers(out, second, Kind::Cat, cat, &cat_spent);
+    let total = booked.total;
+    let length = lines::put_total(out, third, total);
+    Stated {
+        length,
+        standing: Standing {
+            risk: risk_spent,
+            cat: cat_spent,
+            day: booked.day,
+        },
+    }
 }
 
-// The statement of the numbers kept: measured, and written if it fits.
+// The statement of events: measured, and written if it fits.
 fn write_measured(
-    numbers: &[u64],
-    counts: Counts,
-    lent: Standing,
-    after: Standing,
+    register: &[u64],
+    risk: &[u64],
+    cat: &[u64],
+    events: &[u64],
+    standing: Standing,
     buffer: &mut [u8],
 ) -> Ran
-    requires { ⌜ Fits (now numbers) counts ⌝ }
-    ensures { λ r. ⌜ ((t : Statement) → Shows t (now (numbers .entry)) counts
-        → RanAs (statementFitted (length (now (buffer .entry))) t after) lent
+    requires { ⌜ CanState (now register) (now risk) (now cat) standing (now events) ⌝ }
+    ensures { λ r. ⌜ ((es : List Event) → now (events .entry) ≡ eventsNumbers es
+        → RanEvents (now (register .entry)) (now (risk .entry)) (now (cat .entry)) standing es
         (now (buffer .entry)) (now (buffer .exit)) r) ⌝ }
 {
-    let needed = print::measure(numbers, counts);
+    let measured = state(register, risk, cat, events, standing, &mut buffer[..0]);
+    let needed = measured.length;
+    let after = measured.standing;
     if buffer.len() < needed {
-        return refused(answer::BUFFER_TOO_SHORT, needed as u64, lent);
+        return refused(answer::BUFFER_TOO_SHORT, needed as u64, standing);
     }
-    print::put_statement(buffer, numbers, counts);
+    state(register, risk, cat, events, standing, buffer);
     written(needed, after)
 }
 
-// The same. A line has at most 200 bytes whatever its numbers are: a statement of few lines surely fits, and need not
-// be measured first.
-fn write(numbers: &[u64], counts: Counts, lent: Standing, after: Standing, buffer: &mut [u8]) -> Ran
-    requires { ⌜ Fits (now numbers) counts ⌝ }
-    ensures { λ r. ⌜ ((t : Statement) → Shows t (now (numbers .entry)) counts
-        → RanAs (statementFitted (length (now (buffer .entry))) t after) lent
+// The same, where the statement has no more than `room` bytes whatever its numbers are: if these surely fit, it need
+// not be measured first.
+fn write(
+    register: &[u64],
+    risk: &[u64],
+    cat: &[u64],
+    events: &[u64],
+    room: usize,
+    standing: Standing,
+    buffer: &mut [u8],
+) -> Ran
+    requires { ⌜ CanState (now register) (now risk) (now cat) standing (now events)
+        × RoomFor (now risk) (now cat) (now events) room ⌝ }
+    ensures { λ r. ⌜ ((es : List Event) → now (events .entry) ≡ eventsNumbers es
+        → RanEvents (now (register .entry)) (now (risk .entry)) (now (cat .entry)) standing es
         (now (buffer .entry)) (now (buffer .exit)) r) ⌝ }
 {
-    let lines = counts.events + counts.treaties + counts.risk + counts.cat + 1;
-    if print::LONGEST_LINE * lines <= buffer.len() {
-        let length = print::put_statement(buffer, numbers, counts);
-        return written(length, after);
+    if room <= buffer.len() {
+        let stated = state(register, risk, cat, events, standing, buffer);
+        let after = stated.standing;
+        return written(stated.length, after);
     }
-    write_measured(numbers, counts, lent, after, buffer)
+    write_measured(register, risk, cat, events, standing, buffer)
 }
 
-// A run that is past 6, 8 and 9, with places for the statement's numbers.
+// A run that is past 6, 8 and 9, with places for the events' numbers.
 fn through(
-    programme: Programme,
+    register: &[u64],
+    risk: &[u64],
+    cat: &[u64],
     standing: Standing,
     events: &[u8],
     buffer: &mut [u8],
     kept: &mut [u64],
 ) -> Ran
-    requires { ⌜ CanRun 65536 programme standing (now events) × PlacesFor (now events) (now kept) ⌝ }
-    ensures { λ r. ⌜ RanAs (runLines programme standing (now (events .entry)) (length (now (buffer .entry))))
-        standing (now (buffer .entry)) (now (buffer .exit)) r ⌝ }
+    requires { ⌜ CanRun 65536 (now register) (now risk) (now cat) standing (now events)
+        × PlacesFor (now events) (now kept) ⌝ }
+    ensures { λ r. ⌜ RanText (now (register .entry)) (now (risk .entry)) (now (cat .entry)) standing
+        (now (events .entry)) (now (buffer .entry)) (now (buffer .exit)) r ⌝ }
 {
-    let treaties = programme.treaties;
-    let register = register::register_of(treaties);
-    let start = Progress::first(programme, standing);
-    let mut cessions = [0u64; register::NUMBERS];
-    let passed = pass::pass(events, register, start, kept, &mut cessions);
-    let refusal = passed.refusal;
+    let found = reading::read(events, register, standing.day, kept);
+    let refusal = found.refusal;
     if refusal != 0 {
-        return refused(refusal, passed.line, standing);
+        return refused(refusal, found.line, standing);
     }
-    let progress = passed.progress;
-    let counts = Counts {
-        events: progress.next / row::EVENT,
-        treaties: treaties.count,
-        risk: programme.risk.count,
-        cat: programme.cat.count,
-    };
-    let end = keep_rest(kept, treaties, &cessions, progress);
-    let after = progress.standing();
-    write(&kept[..end], counts, standing, after, buffer)
+    let end = found.end;
+    let rest = NUMBERS + numbers::count(risk) + numbers::count(cat) + 1;
+    let room = lines::LONGEST_IDLE * found.idle + print::LONGEST_LINE * (found.entered + rest);
+    write(register, risk, cat, &kept[..end], room, standing, buffer)
 }
 
-// The same with places for a text of at most 1,024 bytes, so that a short text does not pay for a long one: those of
-// an event for each ten bytes, which its line has at least, and those of the lines after the events'.
-fn short(programme: Programme, standing: Standing, events: &[u8], buffer: &mut [u8]) -> Ran
-    requires { ⌜ CanRun 1024 programme standing (now events) ⌝ }
-    ensures { λ r. ⌜ RanAs (runLines programme standing (now (events .entry)) (length (now (buffer .entry))))
-        standing (now (buffer .entry)) (now (buffer .exit)) r ⌝ }
+// The same with places for the numbers of a text of at most 1,024 bytes, so that a short text does not pay for a long
+// one.
+fn short(
+    register: &[u64],
+    risk: &[u64],
+    cat: &[u64],
+    standing: Standing,
+    events: &[u8],
+    buffer: &mut [u8],
+) -> Ran
+    requires { ⌜ CanRun 1024 (now register) (now risk) (now cat) standing (now events) ⌝ }
+    ensures { λ r. ⌜ RanText (now (register .entry)) (now (risk .entry)) (now (cat .entry)) standing
+        (now (events .entry)) (now (buffer .entry)) (now (buffer .exit)) r ⌝ }
 {
-    let mut kept = [0u64; row::EVENT * SHORT / SHORTEST_LINE + row::REST + 1];
-    through(programme, standing, events, buffer, &mut kept)
+    let mut kept = [0u64; kept::LOSS * SHORT / LOSS_BYTES + 1];
+    through(register, risk, cat, standing, events, buffer, &mut kept)
 }
 
 // For one of at most 8,192 bytes.
-fn medium(programme: Programme, standing: Standing, events: &[u8], buffer: &mut [u8]) -> Ran
-    requires { ⌜ CanRun 8192 programme standing (now events) ⌝ }
-    ensures { λ r. ⌜ RanAs (runLines programme standing (now (events .entry)) (length (now (buffer .entry))))
-        standing (now (buffer .entry)) (now (buffer .exit)) r ⌝ }
+fn medium(
+    register: &[u64],
+    risk: &[u64],
+    cat: &[u64],
+    standing: Standing,
+    events: &[u8],
+    buffer: &mut [u8],
+) -> Ran
+    requires { ⌜ CanRun 8192 (now register) (now risk) (now cat) standing (now events) ⌝ }
+    ensures { λ r. ⌜ RanText (now (register .entry)) (now (risk .entry)) (now (cat .entry)) standing
+        (now (events .entry)) (now (buffer .entry)) (now (buffer .exit)) r ⌝ }
 {
-    let mut kept = [0u64; row::EVENT * MEDIUM / SHORTEST_LINE + row::REST + 1];
-    through(programme, standing, events, buffer, &mut kept)
+    let mut kept = [0u64; kept::LOSS * MEDIUM / LOSS_BYTES + 1];
+    through(register, risk, cat, standing, events, buffer, &mut kept)
 }
 
 // For one of at most 65,536 bytes.
-fn long(programme: Programme, standing: Standing, events: &[u8], buffer: &mut [u8]) -> Ran
-    requires { ⌜ CanRun 65536 programme standing (now events) ⌝ }
-    ensures { λ r. ⌜ RanAs (runLines programme standing (now (events .entry)) (length (now (buffer .entry))))
-        standing (now (buffer .entry)) (now (buffer .exit)) r ⌝ }
+fn long(
+    register: &[u64],
+    risk: &[u64],
+    cat: &[u64],
+    standing: Standing,
+    events: &[u8],
+    buffer: &mut [u8],
+) -> Ran
+    requires { ⌜ CanRun 65536 (now register) (now risk) (now cat) standing (now events) ⌝ }
+    ensures { λ r. ⌜ RanText (now (register .entry)) (now (risk .entry)) (now (cat .entry)) standing
+        (now (events .entry)) (now (buffer .entry)) (now (buffer .exit)) r ⌝ }
 {
-    let mut kept = [0u64; row::EVENT * rule::EVENTS_BYTES / SHORTEST_LINE + row::REST + 1];
-    through(programme, standing, events, buffer, &mut kept)
+    let mut kept = [0u64; kept::LOSS * rule::EVENTS_BYTES / LOSS_BYTES + 1];
+    through(register, risk, cat, standing, events, buffer, &mut kept)
 }
 
 // The same with places by the text's length. A buffer shorter than every statement is as good as none: the function
 // calls itself with no bytes of it. It does so on purpose. LLVM puts no callee with more than 1,024 bytes of locals
 // into a function that calls itself, and no function that calls itself into another. So `short`, `medium` and `long`
 // each keep a frame of their own, and a short text does not take the stack of a long one.
-fn placed(programme: Programme, standing: Standing, events: &[u8], buffer: &mut [u8]) -> Ran
-    requires { ⌜ CanRun 65536 programme standing (now events) ⌝ }
-    ensures { λ r. ⌜ RanAs (runLines programme standing (now (events .entry)) (length (now (buffer .entry))))
-        standing (now (buffer .entry)) (now (buffer .exit)) r ⌝ }
+fn placed(
+    register: &[u64],
+    risk: &[u64],
+    cat: &[u64],
+    standing: Standing,
+    events: &[u8],
+    buffer: &mut [u8],
+) -> Ran
+    requires { ⌜ CanRun 65536 (now register) (now risk) (now cat) standing (now events) ⌝ }
+    ensures { λ r. ⌜ RanText (now (register .entry)) (now (risk .entry)) (now (cat .entry)) standing
+        (now (events .entry)) (now (buffer .entry)) (now (buffer .exit)) r ⌝ }
 {
     let room = buffer.len();
     if 0 < room {
         if room < print::SHORTEST {
-            return placed(programme, standing, events, &mut buffer[..0]);
+            return placed(register, risk, cat, standing, events, &mut buffer[..0]);
         }
     }
     if events.len() <= SHORT {
-        return short(programme, standing, events, buffer);
+        return short(register, risk, cat, standing, events, buffer);
     }
     if events.len() <= MEDIUM {
-        return medium(programme, standing, events, buffer);
+        return medium(register, risk, cat, standing, events, buffer);
     }
-    long(programme, standing, events, buffer)
+    long(register, risk, cat, standing, events, buffer)
 }
 
-// Runs an events text under a programme, from a standing on.
+// Runs an events text under a programme, from a standing on. The contracts are laid out as numbers once, to be lent.
 pub fn run(programme: Programme, standing: Standing, events: &[u8], buffer: &mut [u8]) -> Ran
     ensures { λ r. ⌜ (r
         ≡ ranOf (runOf programme standing (now (events .entry)) (length (now (buffer .entry)))) standing)
@@ -218,5 +285,17 @@ pub fn run(programme: Programme, standing: Standing, events: &[u8], buffer: &mut
     if rule::EVENTS_BYTES < events.len() {
         return refused(rule::EVENTS_TOO_LONG, 0, standing);
     }
-    placed(programme, standing, events, buffer)
+    let register = treaties::register_of(programme.treaties);
+    let risk = terms::laid_out(programme.risk);
+    let cat = terms::laid_out(programme.cat);
+    let risk_end = numbers::WIDTH * programme.risk.count;
+    let cat_end = numbers::WIDTH * programme.cat.count;
+    placed(
+        &register,
+        &risk[..risk_end],
+        &cat[..cat_end],
+        standing,
+        events,
+        buffer,
+    )
 }

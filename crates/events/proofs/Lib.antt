@@ -1,4 +1,6 @@
 pub mod LineParts
+pub mod LineEnds
+pub mod InLine
 pub mod Faults
 pub mod LossForms
 pub mod Reading

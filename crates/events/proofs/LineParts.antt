@@ -4,12 +4,11 @@ use mathlib.Core.Path.{_≡_, refl, sym, ap, _∙_}
 use mathlib.Core.Bool.{Bool, true, false}
 use mathlib.Core.List.{List, [], _∷_}
 use mathlib.Core.Option.{Option, none, some}
-use Prim.Native.Nat.{ℕ, suc, _+_, _-_, _≤_, _<_}
+use Prim.Native.Nat.{ℕ, _+_, _-_, _≤_, _<_}
 use native.Mathlib.Omega.{arith}
 use borrow.Author.Tests.{eq-eqb, ne-eqb}
 use lib.Dec.{eqb, lit<}
-use lib.ListN.{length, drop, getD, length-drop, drop-of-length-le}
-use lib.Seq.{drop-cons}
+use lib.ListN.{length, drop, getD, length-drop}
 use Rattle.text.specs.Begin.{begins, Stands}
 use Rattle.text.specs.Bytes.{bytes}
 use Rattle.text.specs.Number.{digitOf, number, numberAt}
@@ -25,7 +24,7 @@ use Rattle.treaty.specs.Treaty.{lossOf}
 use Rattle.events.specs.declared.form.Head.the-variants.{Day, NoEvent}
 use Rattle.events.specs.declared.form.LossForm.{LossForm}
 use Rattle.events.specs.declared.form.LossForm.the-variants as form
-use Rattle.events.specs.Event.{eventText, lossText, closes}
+use Rattle.events.specs.Event.{eventText, lossText}
 use Rattle.events.specs.Form.{headOf, lossAt, lossFormFrom, amountsAt}
 
 -- what is left after a place begins there
@@ -223,15 +222,3 @@ module _ (s : List ℕ) (at : ℕ) where
         treaty-read y a i =
             let left = byte-read s next _ (t ∷ []) 32 (bytes "E G)") amounts-left refl f g y in
             i ∙ ap (lossFormFrom (length s)) (sym left)
-
--- at most one byte is left of a line
-module _ (s : List ℕ) (at : ℕ) (h : length s ≤ at + 1) where
-  pub closes-none : length s ≤ at → false ≡ closes (drop at s)
-  unfolding closes
-  closes-none l = rw (drop-of-length-le s l)
-
-  pub closes-one : at < length s → eqb (getD s at 0) 41 ≡ closes (drop at s)
-  unfolding closes
-  closes-one l =
-      let e : drop (suc at) s ≡ [] = drop-of-length-le s {i = suc at} (omega arith) in
-      rw (drop-cons s at 0 l, e)

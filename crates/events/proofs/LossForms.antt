@@ -2,14 +2,12 @@
 -- the whole event.
 -- Assumes nothing.
 use mathlib.Core.Path.{_≡_, refl, sym, ap, _∙_}
-use mathlib.Core.Bool.{Bool, true, false}
+use mathlib.Core.Bool.{true, false}
 use mathlib.Core.List.{List, [], _∷_, _++_}
 use mathlib.Core.Option.{Option, none, some}
 use Prim.Native.Nat.{ℕ, zero, suc, _+_, _-_, _≤_, _<_}
 use native.Mathlib.Omega.{arith}
-use lib.ListN.{length, drop, getD, length-drop, length-append, drop-of-length-le}
-use lib.Seq.{drop-cons}
-use Rattle.lists.proofs.Cases.{by-lt}
+use lib.ListN.{length, drop, getD, length-drop, length-append}
 use Rattle.text.specs.Template.{matched, matchedAt}
 use Rattle.text.proofs.Lengths.{filled-long}
 use Rattle.text.proofs.Forms.{matched-read}
@@ -23,10 +21,10 @@ use Rattle.events.specs.Event.{eventText, lossText, lossFrom, closes, lo
 use Rattle.events.specs.Form.{headOf, lossAt}
 
 -- a template read at a place of a text: what is left begins at a later place
-pub record Taken (t s : List ℕ) (at : ℕ) (p : List ℕ × List ℕ) (next : ℕ) : Type 0 where
-  pub rest : p .1 ≡ drop next s
-  pub within : next ≤ length s
-  pub past : at + length t ≤ next
+record Taken (t s : List ℕ) (at : ℕ) (p : List ℕ × List ℕ) (next : ℕ) : Type 0 where
+  rest : p .1 ≡ drop next s
+  within : next ≤ length s
+  past : at + length t ≤ next
 
 taken : (t s : List ℕ) (at : ℕ) (p : List ℕ × List ℕ) → at ≤ length s → matched [] t (drop at s) ≡ some p
     → Taken t s at p (length s - length (p .1))
@@ -86,23 +84,6 @@ module _ (line : List ℕ) (h : Head) (q : h ≡ headOf line) where
                 (t .rest ∙ ap (λ (k : ℕ). drop k line) place));
           }
 
--- two bytes or more are not the bracket alone
-two-left : (s : List ℕ) (at : ℕ) → at + 1 < length s → closes (drop at s) ≡ false
-unfolding closes
-two-left s at h =
-    rw (drop-cons s at 0 (omega arith), drop-cons s (suc at) 0 (omega arith))
-
--- fewer than two bytes are no loss form
-none-left : (s : List ℕ) (at : ℕ) → at ≤ length s → length s ≤ at + 1 → matched [] lossText (drop at s) ≡ none
-none-left s at l h = by-read (matched [] lossText (drop at s)) refl
-  where
-    by-read : (o : Option (List ℕ × List ℕ)) → matched [] lossText (drop at s) ≡ o
-        → matched [] lossText (drop at s) ≡ none
-    by-read none e = e
-    by-read (some p) e =
-        let t = taken lossText s at p l e in
-        absurd (omega (arith, t .past, t .within))
-
 -- what is left of a line, by whether it is the bracket alone and what loss form it begins with
 module _ (left : ℕ) (xs : List Loss) (s : List ℕ) where
   ends : closes s ≡ true → 0 < left → lossesUpTo left xs s ≡ some xs
@@ -130,11 +111,29 @@ module _ (left : ℕ) (xs : List Loss) (s : List ℕ) where
       by-left zero h = absurd (omega arith)
       by-left (suc k) h = let n : suc k - 1 ≡ k = omega arith in simp (lossesUpTo, c, e, n)
 
+-- a loss form has 13 bytes or more
+pub loss-place : (s : List ℕ) (at : ℕ) → at ≤ length s → (f : LossForm) → f ≡ lossAt s at → (x : Loss) (next : ℕ)
+    → f ≡ form.Loss x next → (at + 13 ≤ next) × (next ≤ length s)
+unfolding lossAt
+loss-place s at h f q x next y = by-read (matched [] lossText (drop at s)) refl
+  where
+    by-read : (o : Option (List ℕ × List ℕ)) → matched [] lossText (drop at s) ≡ o
+        → (at + 13 ≤ next) × (next ≤ length s)
+    by-read none e =
+        let w : form.Loss x next ≡ form.NoLoss = sym y ∙ q ∙ rw e in
+        let z : _≡_ {A = ℕ} 0 1 = cc in absurd (omega arith)
+    by-read (some p) e =
+        let w : form.Loss x next ≡ form.Loss (lossFrom (p .0)) (length s - length (p .1)) = sym y ∙ q ∙ rw e in
+        let end : length s - length (p .1) ≡ next = cc in
+        let t = taken lossText s at p h e in
+        (omega (arith, t .past), omega (arith, t .within))
+
 module _ (line : List ℕ) (d : ℕ) (xs : List Loss) (place : ℕ) (g : Ahead line d xs place) where
   some-left : 0 < g .left
   some-left = omega (arith, g .within, g .enough)
 
-  module _ (more : place + 1 < length line) (f : LossForm) (q : f ≡ lossAt line place) where
+  -- where the bracket is not all that is left
+  module _ (more : closes (drop place line) ≡ false) (f : LossForm) (q : f ≡ lossAt line place) where
     -- bytes that are no loss form
     pub no-loss-form : f ≡ form.NoLoss → eventOf line ≡ none
     unfolding lossAt
@@ -142,7 +141,7 @@ module _ (line : List ℕ) (d : ℕ) (xs : List Loss) (place : ℕ) (g : Ahead l
       where
         by-read : (o : Option (List ℕ × List ℕ)) → matched [] lossText (drop place line) ≡ o → eventOf line ≡ none
         by-read none e =
-            g .form ∙ ap (datedOn d) (breaks (g .left) xs (drop place line) (two-left line place more) e)
+            g .form ∙ ap (datedOn d) (breaks (g .left) xs (drop place line) more e)
         by-read (some p) e =
             let w : form.NoLoss ≡ form.Loss (lossFrom (p .0)) (length line - length (p .1)) = sym y ∙ q ∙ rw e in
             let z : _≡_ {A = ℕ} 0 1 = cc in absurd (omega arith)
@@ -162,7 +161,7 @@ module _ (line : List ℕ) (d : ℕ) (xs : List Loss) (place : ℕ) (g : Ahead l
             let same : lossFrom (p .0) ≡ x = cc in
             let end : length line - length (p .1) ≡ next = cc in
             let t = taken lossText line place p (g .within) e in
-            let on = goes-on (g .left) xs (drop place line) (two-left line place more) p e some-left in
+            let on = goes-on (g .left) xs (drop place line) more p e some-left in
             let onward : lossesUpTo (g .left - 1) (xs ++ (lossFrom (p .0) ∷ [])) (p .1)
             ≡ lossesUpTo (g .left - 1) (xs ++ (x ∷ [])) (drop next line) =
             rw (same, t .rest, end) in
@@ -174,36 +173,11 @@ module _ (line : List ℕ) (d : ℕ) (xs : List Loss) (place : ℕ) (g : Ahead l
               form = g .form ∙ ap (datedOn d) (on ∙ onward);
             }
 
-    -- it ends at a later place
-    pub further : (x : Loss) (next : ℕ) → f ≡ form.Loss x next → place < next
-    unfolding lossAt
-    further x next y = by-read (matched [] lossText (drop place line)) refl
-      where
-        by-read : (o : Option (List ℕ × List ℕ)) → matched [] lossText (drop place line) ≡ o → place < next
-        by-read none e =
-            let w : form.Loss x next ≡ form.NoLoss = sym y ∙ q ∙ rw e in
-            let z : _≡_ {A = ℕ} 0 1 = cc in absurd (omega arith)
-        by-read (some p) e =
-            let w : form.Loss x next ≡ form.Loss (lossFrom (p .0)) (length line - length (p .1)) = sym y ∙ q ∙ rw e in
-            let end : length line - length (p .1) ≡ next = cc in
-            omega (arith, taken lossText line place p (g .within) e .past)
+  -- bytes that are neither the bracket alone nor a loss form
+  pub broken-off : closes (drop place line) ≡ false → matched [] lossText (drop place line) ≡ none
+      → eventOf line ≡ none
+  broken-off more e = g .form ∙ ap (datedOn d) (breaks (g .left) xs (drop place line) more e)
 
-  -- after the last loss form
-  module _ (few : length line ≤ place + 1) (closed : Bool) (q : closed ≡ closes (drop place line)) where
-    pub event-read : closed ≡ true → eventOf line ≡ some (record { day = d; losses = xs })
-    event-read y = g .form ∙ ap (datedOn d) (ends (g .left) xs (drop place line) (sym q ∙ y) some-left)
-
-    pub event-open : closed ≡ false → eventOf line ≡ none
-    event-open y =
-        g .form
-        ∙ ap (datedOn d) (breaks (g .left) xs (drop place line) (sym q ∙ y) (none-left line place (g .within) few))
-
-    -- the bracket is one byte of the line
-    pub bracket-left : closed ≡ true → place < length line
-    unfolding closes
-    bracket-left y =
-        by-lt place (length line) (λ h. h)
-        (λ h.
-        let none-there : closes (drop place line) ≡ false = rw (drop-of-length-le line h) in
-        let z : true ≡ false = sym y ∙ q ∙ none-there in
-        let no : _≡_ {A = ℕ} 0 1 = cc in absurd (omega arith))
+  -- the bracket alone
+  pub closed-off : closes (drop place line) ≡ true → eventOf line ≡ some (record { day = d; losses = xs })
+  closed-off c = g .form ∙ ap (datedOn d) (ends (g .left) xs (drop place line) c some-left)

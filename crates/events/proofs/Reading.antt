@@ -125,7 +125,7 @@ no-fault a b n r z =
     (λ h. absurd (omega (arith, simp (lt-ltb a b h) at z)))
     (λ h. (h, simp (le-ltb a b h) at z))
 
-pub event-lawful : (ts : List Treaty) (d : ℕ) (e : Event) → eventFault ts d e ≡ 0 → EventLawful e
+event-lawful : (ts : List Treaty) (d : ℕ) (e : Event) → eventFault ts d e ≡ 0 → EventLawful e
 unfolding eventOutside eventFault
 event-lawful ts d e z =
     let r = no-fault 0 (eventOutside e) 10 _ z in
@@ -141,7 +141,12 @@ faultless-lawful : (ts : List Treaty) (d : ℕ) (es : List Event) → Faultless 
 faultless-lawful ts d [] z = tt
 faultless-lawful ts d (e ∷ es) z = (event-lawful ts d e (z .0), faultless-lawful ts (e .day) es (z .1))
 
--- each event that is read keeps to it
+-- each event of lines that are read keeps to it
+pub lines-lawful : (ts : List Treaty) (w d : ℕ) (fs : List (Option Event)) (es : List Event)
+    → readFrom ts w d fs ≡ events es → Each EventLawful es
+lines-lawful ts w d fs es q = faultless-lawful ts d es (lines-read ts w d fs es q .faultless)
+
+-- and each of a text
 pub read-lawful : (ts : List Treaty) (d : ℕ) (s : List ℕ) (es : List Event) → eventsOf ts d s ≡ events es
     → Each EventLawful es
 read-lawful ts d s es q = faultless-lawful ts d es (text-read ts d s es q .lines .faultless)

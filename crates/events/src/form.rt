@@ -2,8 +2,9 @@
 ghost use mathlib.Core.Path.{_≡_};
 ghost use Prim.Native.Nat.{_+_, _≤_};
 ghost use lib.ListN.{length, drop};
+ghost use Rattle.text.specs.Begin.{begins};
+ghost use Rattle.text.specs.Bytes.{bytes};
 ghost use Rattle.text.specs.Number.{numberAt};
-ghost use Rattle.events.specs.Event.{closes};
 ghost use Rattle.events.specs.Form.{headOf, lossAt, amountsAt};
 use text::line;
 use text::number;
@@ -115,14 +116,24 @@ pub fn read_loss(line: &[u8], at: usize) -> LossForm
     LossForm::NoLoss
 }
 
-// Whether the bracket that ends a line is all that is left of it, where at most one byte is.
-pub fn closes(line: &[u8], at: usize) -> bool
-    requires { ⌜ length (now line) ≤ at + 1 ⌝ }
-    ensures { λ r. ⌜ r ≡ closes (drop at (now (line .entry))) ⌝ }
+// How many bytes end a line: the bracket and the line feed.
+pub const ENDING: usize = 2;
+
+// Whether these stand at a place.
+pub fn closes(text: &[u8], at: usize) -> bool
+    requires { ⌜ at ≤ length (now text) ⌝ }
+    ensures { λ r. ⌜ r ≡ begins (bytes ")\n") (drop at (now (text .entry))) ⌝ }
 {
-    if at < line.len() {
-        let byte = line[at];
-        return byte == b')';
+    if at + 1 < text.len() {
+        let byte = text[at];
+        match byte {
+            b')' => {
+                return text[at + 1] == b'\n';
+            }
+            _ => {
+                return false;
+            }
+        }
     }
     false
 }

@@ -4,7 +4,7 @@ use mathlib.Core.Path.{_≡_, refl, sym, ap, _∙_}
 use mathlib.Core.List.{List, _++_, map, append-nil}
 use Prim.Native.Nat.{ℕ, _+_, _^_, _≤_, _<_}
 use native.Mathlib.Omega.{arith}
-use lib.ListN.{length, take, drop, getD, set, length-set, length-take}
+use lib.ListN.{length, take, drop, getD, set, length-set}
 use lib.Seq.{slice, take-length, drop-length}
 use Rattle.lists.specs.Sums.{sumOf}
 use Rattle.lists.specs.Each.{Each}
@@ -12,12 +12,9 @@ use Rattle.lists.proofs.Passes.{each-next, each-step, map-step, sum-step, map-e
 use Rattle.layer.specs.declared.record.Layer.{Layer}
 use Rattle.layer.specs.declared.record.Sums.{Sums}
 use Rattle.layer.specs.declared.record.Borne.{Borne}
-use Rattle.layer.specs.declared.tier.Tier.{Tier}
-use Rattle.layer.specs.declared.tier.TierBorne.{TierBorne}
 use Rattle.layer.specs.Layer.{sumsOf, borneThrough}
 use Rattle.layer.specs.Tier.{layersThrough, recoveriesThrough, chargesThrough, sumsThrough}
-use Rattle.layer.specs.Tier.{layersOf, tierAfter, tierThrough}
-use Rattle.layer.specs.Ranges.{Sound, Ample, AmpleForTier, SoundLayers, SoundTier}
+use Rattle.layer.specs.Ranges.{Sound, Ample, AmpleForTier, SoundLayers}
 use Rattle.layer.proofs.Through.{afterEach, recoveredEach, chargedEach, borne-columns}
 use Rattle.layer.proofs.Through.{layers-each, recoveries-each, charges-each}
 use Rattle.layer.proofs.Tiers.{recoveries-through-le, charges-through-le}
@@ -95,20 +92,6 @@ module _ (xs : List ℕ) (ls₀ : List Layer) (s₀ : Sums) where
           let p = sum-end i (length ls₀) ls last (chargedEach xs) _ (h .premium) in
           λ j. sumsOf (r j) (p j)
 
--- a tier by value: its layers are those in its first places
-pub tier-layers : (t : Tier) → SoundTier t → SoundLayers (layersOf t)
-tier-layers t sound = record {
-  few = omega (arith, length-take (t .count) (t .layers), sound .count);
-  each = sound .each;
-}
-
+-- sums of nothing have room for a tier's
 pub none-ample : (s : Sums) → s .recovered .0 ≡ 0 → s .premium .0 ≡ 0 → AmpleForTier s
 none-ample s r p = record { recovered = omega arith; premium = omega arith }
-
-pub tier-passed : (xs : List ℕ) (t : Tier) (s : Sums) (b : TierBorne) → s .recovered .0 ≡ 0 → s .premium .0 ≡ 0
-    → b .tier ≡ tierAfter xs t → b .sums ≡ sumsThrough xs s (layersOf t) → b ≡ tierThrough xs t
-tier-passed xs t s b r p after is =
-    let e : s .recovered .0 + recoveriesThrough xs (layersOf t) ≡ recoveriesThrough xs (layersOf t) = omega arith in
-    let e′ : s .premium .0 + chargesThrough xs (layersOf t) ≡ chargesThrough xs (layersOf t) = omega arith in
-    let sums : b .sums ≡ tierThrough xs t .sums = is ∙ (λ j. sumsOf (e j) (e′ j)) in
-    λ j. record { tier = after j; sums = sums j }

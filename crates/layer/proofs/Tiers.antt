@@ -11,9 +11,9 @@ use Rattle.lists.proofs.Bounds.{sum-le-sum, sum-le}
 use Rattle.layer.specs.declared.record.Layer.{Layer}
 use Rattle.layer.specs.declared.tier.Tier.{Tier}
 use Rattle.layer.specs.Layer.{broughtBy, recoveryBy}
-use Rattle.layer.specs.Tier.{layersAfter, lossesBy, recoveriesBy, layersOf, tierThrough}
+use Rattle.layer.specs.Tier.{layersAfter, lossesBy, recoveriesBy, layersOf, tierAfter}
 use Rattle.layer.specs.Tier.{layersThrough, recoveriesThrough, chargesThrough, leftThrough}
-use Rattle.layer.specs.Ranges.{Sound, Rising, SoundTier}
+use Rattle.layer.specs.Ranges.{Sound, Rising}
 use Rattle.layer.proofs.Recoveries.{recovery-le}
 use Rattle.layer.proofs.Records.{sound-after}
 use Rattle.layer.proofs.Through.{afterEach, recoveredEach, recovered-each-le, chargedEach, charged-each-le}
@@ -55,15 +55,6 @@ pub rising-after : (x e : ℕ) (ys : List Layer) → Rising e ys → Rising e (l
 rising-after x e [] r = tt
 rising-after x e (y ∷ ys) r = (r .0, rising-after x (y .terms .attachment + y .terms .limit) ys (r .1))
 
--- so it is through amounts in turn
-pub sound-through : (xs : List ℕ) (ls : List Layer) → Each Sound ls → Each Sound (layersThrough xs ls)
-sound-through [] ls s = s
-sound-through (x ∷ xs) ls s = sound-through xs (layersAfter x ls) (each-after x ls s)
-
-pub rising-through : (xs : List ℕ) (e : ℕ) (ls : List Layer) → Rising e ls → Rising e (layersThrough xs ls)
-rising-through [] e ls r = r
-rising-through (x ∷ xs) e ls r = rising-through xs e (layersAfter x ls) (rising-after x e ls r)
-
 -- what a tier leaves of its subjects never goes below 0
 pub recovered-and-left-through : (xs : List ℕ) (ls : List Layer) → Each Sound ls → Rising 0 ls
     → recoveriesThrough xs ls + leftThrough xs ls ≡ total xs
@@ -81,14 +72,6 @@ first-mapped f zero l = refl
 first-mapped f (suc n) [] = refl
 first-mapped f (suc n) (y ∷ ys) = ap (λ zs. f y ∷ zs) (first-mapped f n ys)
 
-module _ (xs : List ℕ) (t : Tier) where
-  -- the layers of the tier after are its layers, each brought up to date
-  pub layers-through : layersOf (tierThrough xs t .tier) ≡ layersThrough xs (layersOf t)
-  layers-through = rw (layers-each xs (layersOf t)) (first-mapped (afterEach xs) (t .count) (t .layers))
-
-  pub sound-tier-through : SoundTier t → SoundTier (tierThrough xs t .tier)
-  sound-tier-through s = record {
-    count = s .count;
-    each = rw layers-through (sound-through xs (layersOf t) (s .each));
-    rising = rw layers-through (rising-through xs 0 (layersOf t) (s .rising));
-  }
+-- the layers of the tier after amounts are its layers, each brought up to date
+pub layers-through : (xs : List ℕ) (t : Tier) → layersOf (tierAfter xs t) ≡ layersThrough xs (layersOf t)
+layers-through xs t = rw (layers-each xs (layersOf t)) (first-mapped (afterEach xs) (t .count) (t .layers))

@@ -8,7 +8,6 @@ use Rattle.lists.specs.Sums.{sumOf}
 use Rattle.layer.specs.declared.record.Layer.{Layer}
 use Rattle.layer.specs.declared.record.Sums.{Sums}
 use Rattle.layer.specs.declared.tier.Tier.{Tier}
-use Rattle.layer.specs.declared.tier.TierBorne.{TierBorne}
 use Rattle.layer.specs.Layer.{broughtBy, afterSubject, recoveryBy, chargeBy, sumsOf}
 
 -- the losses that a subject x brings to layers, their recoveries and their premiums, added
@@ -62,11 +61,4 @@ abbrev pub tierAfter : List ℕ → Tier → Tier
 tierAfter xs t = record {
   layers = layersThrough xs (layersOf t) ++ drop (t .count) (t .layers);
   count = t .count;
-}
-
--- with its recoveries and its premiums, added
-abbrev pub tierThrough : List ℕ → Tier → TierBorne
-tierThrough xs t = record {
-  tier = tierAfter xs t;
-  sums = sumsOf (recoveriesThrough xs (layersOf t)) (chargesThrough xs (layersOf t));
 }

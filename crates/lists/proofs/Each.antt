@@ -1,12 +1,12 @@
 -- Laws of a fact of each element: of two lists put together, of a list of one element repeated, of one in a place, of
--- the rest of a list, after a store, of a list mapped, and of a list that passes tests.
+-- the rest and of the front of a list, after a store, of a list mapped, and of a list that passes tests.
 -- Assumes nothing.
 use mathlib.Core.Path.{_≡_}
 use mathlib.Core.Bool.{Bool, true}
 use mathlib.Core.List.{List, [], _∷_, _++_, map}
 use Prim.Native.Nat.{ℕ, zero, suc, _<_}
 use native.Mathlib.Omega.{arith}
-use lib.ListN.{length, drop, getD, set, replicate}
+use lib.ListN.{length, take, drop, getD, set, replicate}
 use Rattle.lists.specs.Each.{Each}
 use Rattle.lists.specs.Chains.{chained, every}
 use Rattle.lists.proofs.Chains.{both}
@@ -34,6 +34,11 @@ module _ {A : Type 0} (P : A → Type 0) where
   each-drop zero l e = e
   each-drop (suc i) [] e = e
   each-drop (suc i) (x ∷ l) e = each-drop i l (e .1)
+
+  pub each-take : (i : ℕ) (l : List A) → Each P l → Each P (take i l)
+  each-take zero l e = tt
+  each-take (suc i) [] e = e
+  each-take (suc i) (x ∷ l) e = (e .0, each-take i l (e .1))
 
   pub each-set : (l : List A) → Each P l → (i : ℕ) (a : A) → P a → Each P (set l i a)
   each-set [] e i a p = tt

@@ -7,3 +7,4 @@ pub mod Chains
 pub mod Each
 pub mod Fronts
 pub mod Places
+pub mod Rows

@@ -11,7 +11,6 @@ use lib.ListN.{length, take, drop, getD, set, length-map, take-append-drop}
 use lib.Seq.{take-suc-set, drop-set-lt, take-set-lt, slice, slice-cons, slice-empty}
 use Rattle.lists.specs.Sums.{sumOf}
 use Rattle.lists.specs.Each.{Each}
-use Rattle.lists.proofs.Each.{each-drop}
 
 module _ {A : Type 0} (i n : ℕ) (l : List A) (h : i < n) (k : n ≤ length l) where
   -- a store at i leaves what is ahead of it
@@ -21,10 +20,6 @@ module _ {A : Type 0} (i n : ℕ) (l : List A) (h : i < n) (k : n ≤ length l) 
   -- the next element has what each of those ahead has
   pub each-next : (P : A → Type 0) (d : A) → Each P (slice i n l) → P (getD l i d)
   each-next P d e = (rw (slice-cons i n l d h k) at e) .0
-
-  -- and what each of the first n has
-  pub each-first : (P : A → Type 0) (d : A) → Each P (take n l) → P (getD l i d)
-  each-first P d e = each-next P d (each-drop P i (take n l) e)
 
   pub each-step : (P : A → Type 0) (v : A) → Each P (slice i n l) → Each P (slice (i + 1) n (set l i v))
   each-step P v e = rw (rest v) ((rw (slice-cons i n l v h k) at e) .1)

@@ -2,7 +2,7 @@
 -- Assumes nothing.
 use mathlib.Core.Path.{_≡_, refl, sym, _∙_}
 use mathlib.Core.List.{List, [], _∷_, _++_, map}
-use Prim.Native.Nat.{ℕ, suc, _+_, _-_, _*_, _/_, _^_, _≤_, _<_, zero-le}
+use Prim.Native.Nat.{ℕ, suc, _+_, _-_, _*_, _^_, _≤_, _<_, zero-le}
 use native.Mathlib.Nat.{add-zero, zero-add}
 use native.Mathlib.Numerals.{add-one}
 use native.Mathlib.Omega.{arith}
@@ -21,12 +21,13 @@ use Rattle.treaty.specs.Losses.{grossOf, cededIn, cededOfEach, leftOfEach}
 use Rattle.treaty.specs.Ranges.{TermsInRange, LossInRange, Cedable}
 use Rattle.treaty.proofs.Cessions.{ceded-le-amount}
 use Rattle.programme.specs.Contracts.{noTreaty}
-use Rattle.losses.specs.declared.register.ByNumber.{ByNumber}
-use Rattle.losses.specs.Register.{eachNumber, withNumber, numbered}
-use Rattle.losses.specs.Cede.{lossesFrom, cededAdded, AfterTreaties, CanCede}
+use Rattle.losses.specs.Treaties.{eachNumber, withNumber, placesFrom, treatiesFrom, Registered}
+use Rattle.losses.specs.Cede.{lossesFrom, cededAdded, AfterTreaties}
+use Rattle.losses.specs.Event.{CanCedeEach}
 use Rattle.losses.proofs.Stores.{each-sum, at-most, sum-at}
 use Rattle.losses.proofs.Numbers.{at-number}
-use Rattle.losses.proofs.Triples.{losses-count}
+use Rattle.losses.proofs.TreatyRows.{nine-treaties}
+use Rattle.losses.proofs.RegisteredTreaties.{places-terms}
 use Rattle.losses.proofs.Taken.{takenAt, ceded-with, taken-after}
 
 -- Of the losses xs those of `before` went through the treaties ts, and those of `after` are ahead. The amounts come to
@@ -67,15 +68,14 @@ module _ (ts : List Treaty) (xs : List Loss) (l₀ cs₀ : List ℕ) where
     h .left,
   )
 
--- The same of the first i of k losses, for whichever treaties the places ps hold, with what keeps the sums small. What
--- each treaty took is in `ks`, by number.
-pub record Ceding (ps : List Treaty) (xs : List Loss) (k : ℕ) (l₀ cs₀ l cs ks : List ℕ) (g c i : ℕ) : Type 0 where
+-- The same of the first i of k losses, for the treaties of a register, with what keeps the sums small. What each treaty
+-- took is in `ks`, by number.
+pub record Ceding (register : List ℕ) (xs : List Loss) (k : ℕ) (l₀ cs₀ l cs ks : List ℕ) (g c i : ℕ) : Type 0 where
+  pub registered : Registered register
   pub count : k ≡ length xs
   pub within : i ≤ k
   pub few : k ≤ 64
   pub losses : Each LossInRange xs
-  pub terms : Each TermsInRange ps
-  pub nine : length ps ≡ 9
   pub room : k ≤ length l
   pub same-left : length l ≡ length l₀
   pub same-sums : length cs ≡ length cs₀
@@ -84,34 +84,36 @@ pub record Ceding (ps : List Treaty) (xs : List Loss) (k : ℕ) (l₀ cs₀ l cs
   pub ceded-le : c ≤ g
   pub sums-le : Each (λ (n : ℕ). n ≤ 2 ^ 62 + i * 10 ^ 13) cs
   pub taken-le : Each (λ (n : ℕ). n ≤ i * 10 ^ 13) ks
-  pub taken : (ts : List Treaty) → ps ≡ numbered ts → (n : ℕ) → n ≤ 8 → getD ks n 0 ≡ takenAt ts n (take i xs)
-  pub columns : (ts : List Treaty) → ps ≡ numbered ts → Columns ts xs l₀ cs₀ (take i xs) (drop i xs) i g c l cs
+  pub taken : (n : ℕ) → n ≤ 8 → getD ks n 0 ≡ takenAt (treatiesFrom register) n (take i xs)
+  pub columns : Columns (treatiesFrom register) xs l₀ cs₀ (take i xs) (drop i xs) i g c l cs
 
 -- before the first loss
-module _ (table : ByNumber) (ns l cs : List ℕ) (nine : length (table .places) ≡ 9) (can : CanCede table ns cs)
-    (room : length (lossesFrom ns) ≤ length l) where
-  pub none-ceded : Ceding (table .places) (lossesFrom ns) (length ns / 3) l cs l cs (map (λ n. 0) eachNumber) 0 0 0
-  none-ceded = record {
-    count = sym (losses-count ns);
-    within = omega arith;
-    few = omega (arith, losses-count ns, can .few);
-    losses = can .losses;
-    terms = can .terms;
-    nine = nine;
-    room = omega (arith, losses-count ns);
-    same-left = refl;
-    same-sums = refl;
-    nine-taken = refl;
-    gross-le = omega arith;
-    ceded-le = omega arith;
-    sums-le = can .amounts;
-    taken-le = each-of (λ (n : ℕ). 0 ≤ 0) (λ n. zero-le) eachNumber;
-    taken = λ ts e. at-number (λ n. 0) 0;
-    columns = λ ts e. no-column ts (lossesFrom ns) l cs;
-  }
+pub none-ceded : (register ns l cs : List ℕ) → CanCedeEach register ns cs → length (lossesFrom ns) ≤ length l
+    → (k : ℕ) → k ≡ length (lossesFrom ns)
+    → Ceding register (lossesFrom ns) k l cs l cs (map (λ n. 0) eachNumber) 0 0 0
+none-ceded register ns l cs can room k is = record {
+  registered = can .registered;
+  count = is;
+  within = omega arith;
+  few = omega (arith, is, can .few);
+  losses = can .losses;
+  room = omega (arith, is);
+  same-left = refl;
+  same-sums = refl;
+  nine-taken = refl;
+  gross-le = omega arith;
+  ceded-le = omega arith;
+  sums-le = can .amounts;
+  taken-le = each-of (λ (n : ℕ). 0 ≤ 0) (λ n. zero-le) eachNumber;
+  taken = at-number (λ n. 0) 0;
+  columns = no-column (treatiesFrom register) (lossesFrom ns) l cs;
+}
 
-module _ {ps : List Treaty} {xs : List Loss} {k : ℕ} {l₀ cs₀ l cs ks : List ℕ} {g c i : ℕ}
-    (h : Ceding ps xs k l₀ cs₀ l cs ks g c i) where
+module _ {register : List ℕ} {xs : List Loss} {k : ℕ} {l₀ cs₀ l cs ks : List ℕ} {g c i : ℕ}
+    (h : Ceding register xs k l₀ cs₀ l cs ks g c i) where
+  abbrev table : List Treaty
+  table = treatiesFrom register
+
   -- one loss more
   module _ (more : i < k) (x : Loss) (is : x ≡ getD xs i (lossOf 0 0 0)) where
     inside : i < length xs
@@ -120,29 +122,8 @@ module _ {ps : List Treaty} {xs : List Loss} {k : ℕ} {l₀ cs₀ l cs ks : Lis
     pub loss-in-range : LossInRange x
     loss-in-range = rw is (each-at LossInRange xs (h .losses) i (lossOf 0 0 0) inside)
 
-    abbrev treaty : Treaty
-    treaty = getD ps (x .treaty) noTreaty
-
     abbrev took : ℕ
     took = getD ks (x .treaty) 0
-
-    terms-in-range : TermsInRange treaty
-    terms-in-range =
-        each-at TermsInRange ps (h .terms) (x .treaty) noTreaty (omega (arith, h .nine, loss-in-range .treaty))
-
-    pub next-cedable : Cedable treaty took x
-    next-cedable = record {
-      terms = terms-in-range;
-      loss = loss-in-range;
-      taken-below = omega (arith, h .few, at-most _ ks (h .taken-le) (x .treaty));
-    }
-
-    -- what is ceded of it by the treaty in its place is what the table cedes
-    ceded-is : (ts : List Treaty) → ps ≡ numbered ts → cededOfLoss treaty took x ≡ cededIn ts (take i xs) x
-    ceded-is ts e =
-        let n = loss-in-range .treaty in
-        rw (e, at-number (withNumber ts) noTreaty (x .treaty) n, h .taken ts e (x .treaty) n)
-        (sym (ceded-with ts (take i xs) x))
 
     one-taken : take (suc i) xs ≡ take i xs ++ (x ∷ [])
     one-taken = rw is (take-suc xs i (lossOf 0 0 0) inside)
@@ -150,55 +131,78 @@ module _ {ps : List Treaty} {xs : List Loss} {k : ℕ} {l₀ cs₀ l cs ks : Lis
     one-dropped : drop i xs ≡ x ∷ drop (suc i) xs
     one-dropped = rw is (drop-cons xs i (lossOf 0 0 0) inside)
 
-    ceded-le-gross : cededOfLoss treaty took x ≤ x .amount
-    ceded-le-gross = ceded-le-amount treaty took x (terms-in-range .cede)
-
-    taken-is : (ts : List Treaty) → ps ≡ numbered ts → (n : ℕ) → n ≤ 8
-        → getD (set ks (x .treaty) (took + cededOfLoss treaty took x)) n 0 ≡ takenAt ts n (take (suc i) xs)
-    taken-is ts e n high =
-        let now = sum-at ks (x .treaty) (cededOfLoss treaty took x) n (omega (arith, h .nine-taken)) in
-        rw (one-taken, taken-after n (take i xs) x ts, sym (h .taken ts e n high), sym (ceded-is ts e)) now
-
     pub gross-fits : Fits w64 (g + x .amount)
     gross-fits = omega (arith, h .few, h .gross-le, loss-in-range .amount)
 
-    module _ (d : Cession) (does : d ≡ cessionOf treaty took x) where
-      ceded-is-le : d .ceded ≤ 10 ^ 13
-      ceded-is-le = rw does (omega (arith, loss-in-range .amount, ceded-le-gross))
+    -- through the treaty in its place
+    module _ (treaty : Treaty) (stands : treaty ≡ getD (placesFrom register) (x .treaty) noTreaty) where
+      terms-in-range : TermsInRange treaty
+      terms-in-range =
+          rw stands
+          (each-at TermsInRange (placesFrom register) (places-terms (h .registered)) (x .treaty) noTreaty
+          (omega (arith, nine-treaties register, loss-in-range .treaty)))
 
-      pub ceded-fits : Fits w64 (c + d .ceded)
-      ceded-fits = omega (arith, h .few, h .gross-le, h .ceded-le, ceded-is-le)
-
-      pub sum-fits : Fits w64 (getD cs (x .treaty) 0 + d .ceded)
-      sum-fits = omega (arith, h .few, at-most _ cs (h .sums-le) (x .treaty), ceded-is-le)
-
-      pub one-ceded : Ceding ps xs k l₀ cs₀ (set l i (d .left))
-          (set cs (x .treaty) (getD cs (x .treaty) 0 + d .ceded)) (set ks (x .treaty) (d .taken))
-          (g + x .amount) (c + d .ceded) (i + 1)
-      one-ceded = rw (does, add-one i) record {
-        count = h .count;
-        within = omega arith;
-        few = h .few;
-        losses = h .losses;
-        terms = h .terms;
-        nine = h .nine;
-        room = omega (arith, h .room, length-set l i (x .amount - cededOfLoss treaty took x));
-        same-left = length-set l i _ ∙ h .same-left;
-        same-sums = length-set cs (x .treaty) _ ∙ h .same-sums;
-        nine-taken = length-set ks (x .treaty) _ ∙ h .nine-taken;
-        gross-le = omega (arith, h .gross-le, loss-in-range .amount);
-        ceded-le = omega (arith, h .ceded-le, ceded-le-gross);
-        sums-le = each-sum _ _ cs (h .sums-le) (x .treaty) _ (omega (arith, loss-in-range .amount, ceded-le-gross));
-        taken-le = each-sum _ _ ks (h .taken-le) (x .treaty) _ (omega (arith, loss-in-range .amount, ceded-le-gross));
-        taken = taken-is;
-        columns = λ ts e. rw one-taken
-            (one-column ts xs l₀ cs₀ (take i xs) x (drop (suc i) xs) i g c l cs (rw one-dropped at (h .columns ts e))
-            (cededOfLoss treaty took x) (ceded-is ts e));
+      pub next-cedable : Cedable treaty took x
+      next-cedable = record {
+        terms = terms-in-range;
+        loss = loss-in-range;
+        taken-below = omega (arith, h .few, at-most _ ks (h .taken-le) (x .treaty));
       }
 
+      -- what it cedes is what the table cedes
+      ceded-is : cededOfLoss treaty took x ≡ cededIn table (take i xs) x
+      ceded-is =
+          let n = loss-in-range .treaty in
+          let placed = at-number (withNumber table) noTreaty (x .treaty) n in
+          rw (stands, h .registered .places, placed, h .taken (x .treaty) n)
+          (sym (ceded-with table (take i xs) x))
+
+      ceded-le-gross : cededOfLoss treaty took x ≤ x .amount
+      ceded-le-gross = ceded-le-amount treaty took x (terms-in-range .cede)
+
+      taken-is : (n : ℕ) → n ≤ 8
+          → getD (set ks (x .treaty) (took + cededOfLoss treaty took x)) n 0 ≡ takenAt table n (take (suc i) xs)
+      taken-is n high =
+          let now = sum-at ks (x .treaty) (cededOfLoss treaty took x) n (omega (arith, h .nine-taken)) in
+          rw (one-taken, taken-after n (take i xs) x table, sym (h .taken n high), sym ceded-is) now
+
+      module _ (d : Cession) (does : d ≡ cessionOf treaty took x) where
+        ceded-is-le : d .ceded ≤ 10 ^ 13
+        ceded-is-le = rw does (omega (arith, loss-in-range .amount, ceded-le-gross))
+
+        pub ceded-fits : Fits w64 (c + d .ceded)
+        ceded-fits = omega (arith, h .few, h .gross-le, h .ceded-le, ceded-is-le)
+
+        pub sum-fits : Fits w64 (getD cs (x .treaty) 0 + d .ceded)
+        sum-fits = omega (arith, h .few, at-most _ cs (h .sums-le) (x .treaty), ceded-is-le)
+
+        pub one-ceded : Ceding register xs k l₀ cs₀ (set l i (d .left))
+            (set cs (x .treaty) (getD cs (x .treaty) 0 + d .ceded)) (set ks (x .treaty) (d .taken))
+            (g + x .amount) (c + d .ceded) (i + 1)
+        one-ceded = rw (does, add-one i) record {
+          registered = h .registered;
+          count = h .count;
+          within = omega arith;
+          few = h .few;
+          losses = h .losses;
+          room = omega (arith, h .room, length-set l i (x .amount - cededOfLoss treaty took x));
+          same-left = length-set l i _ ∙ h .same-left;
+          same-sums = length-set cs (x .treaty) _ ∙ h .same-sums;
+          nine-taken = length-set ks (x .treaty) _ ∙ h .nine-taken;
+          gross-le = omega (arith, h .gross-le, loss-in-range .amount);
+          ceded-le = omega (arith, h .ceded-le, ceded-le-gross);
+          sums-le = each-sum _ _ cs (h .sums-le) (x .treaty) _ (omega (arith, loss-in-range .amount, ceded-le-gross));
+          taken-le =
+              each-sum _ _ ks (h .taken-le) (x .treaty) _ (omega (arith, loss-in-range .amount, ceded-le-gross));
+          taken = taken-is;
+          columns = rw one-taken
+              (one-column table xs l₀ cs₀ (take i xs) x (drop (suc i) xs) i g c l cs (rw one-dropped at (h .columns))
+              (cededOfLoss treaty took x) ceded-is);
+        }
+
   -- after the last loss
-  pub all-ceded : k ≤ i → (ts : List Treaty) → ps ≡ numbered ts
-      → AfterTreaties ts xs cs₀ cs (record { gross = g; ceded = c }) × (l ≡ sets l₀ 0 (leftOfEach ts [] xs))
-  all-ceded ended ts e =
-      all-columns ts xs l₀ cs₀ (take i xs) i g c l cs
-      (rw (drop-of-length-le xs {i = i} (omega (arith, h .count))) at (h .columns ts e))
+  pub all-ceded : k ≤ i
+      → AfterTreaties table xs cs₀ cs (record { gross = g; ceded = c }) × (l ≡ sets l₀ 0 (leftOfEach table [] xs))
+  all-ceded ended =
+      all-columns table xs l₀ cs₀ (take i xs) i g c l cs
+      (rw (drop-of-length-le xs {i = i} (omega (arith, h .count))) at (h .columns))

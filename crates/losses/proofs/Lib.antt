@@ -1,9 +1,11 @@
 pub mod Stores
 pub mod Numbers
-pub mod Storing
 pub mod Triples
+pub mod TreatyRows
+pub mod Present
+pub mod RegisterPass
+pub mod RegisteredTreaties
+pub mod EventNumbers
 pub mod Taken
 pub mod Added
 pub mod CedePass
-pub mod Lacks
-pub mod RegisterFacts

@@ -14,7 +14,7 @@ use Rattle.treaty.specs.Treaty.{cededOf, cutToLimit, cededOfLoss, cessionsFrom,
 use Rattle.treaty.specs.Losses.{cededIn}
 use Rattle.treaty.proofs.Losses.{taken-next}
 use Rattle.programme.specs.Contracts.{noTreaty}
-use Rattle.losses.specs.Register.{withNumber}
+use Rattle.losses.specs.Treaties.{withNumber}
 
 -- what the treaty with the number n took of losses
 abbrev pub takenAt : List Treaty → (n : ℕ) → List Loss → ℕ

@@ -3,18 +3,14 @@
 -- Assumes nothing.
 use mathlib.Core.Path.{_≡_}
 use mathlib.Core.List.{List, [], _∷_, _++_}
-use Prim.Native.Nat.{ℕ, _+_, _^_, _≤_}
-use lib.ListN.{length, getD, set}
+use Prim.Native.Nat.{ℕ, _+_}
+use lib.ListN.{getD, set}
 use Rattle.lists.specs.Sums.{total}
-use Rattle.lists.specs.Each.{Each}
 use Rattle.treaty.specs.declared.Treaty.{Treaty}
 use Rattle.treaty.specs.declared.Loss.{Loss}
 use Rattle.treaty.specs.Treaty.{lossOf}
 use Rattle.treaty.specs.Losses.{grossOf, cededIn, cededOfEach}
-use Rattle.treaty.specs.Ranges.{TermsInRange, LossInRange}
-use Rattle.losses.specs.declared.register.ByNumber.{ByNumber}
-use Rattle.losses.specs.declared.cede.ByTreaties.{ByTreaties}
-use Rattle.losses.specs.Register.{numbered}
+use Rattle.losses.specs.declared.event.ByTreaties.{ByTreaties}
 
 -- numbers as losses, three a loss: T, E, g
 abbrev pub lossesFrom : List ℕ → List Loss
@@ -35,14 +31,3 @@ pub record AfterTreaties (ts : List Treaty) (xs : List Loss) (cs cs′ : List �
   pub gross : c .gross ≡ grossOf xs
   pub ceded : c .ceded ≡ total (cededOfEach ts [] xs)
   pub cessions : cs′ ≡ cededAdded ts [] cs xs
-
--- What it takes: the places of some treaties, terms and losses in range, at most 64 losses, and a place for each
--- number whose amount leaves room for what is ceded.
-pub record CanCede (table : ByNumber) (ns cs : List ℕ) : Type 0 where
-  pub treaties : List Treaty
-  pub by-number : table .places ≡ numbered treaties
-  pub terms : Each TermsInRange (table .places)
-  pub losses : Each LossInRange (lossesFrom ns)
-  pub few : length (lossesFrom ns) ≤ 64
-  pub places : length cs ≡ 9
-  pub amounts : Each (λ (n : ℕ). n ≤ 2 ^ 62) cs

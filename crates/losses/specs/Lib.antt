@@ -1,2 +1,3 @@
-pub mod Register
+pub mod Treaties
 pub mod Cede
+pub mod Event

@@ -1,3 +1,4 @@
 // The losses of an event through their treaties, and the treaties by number.
-pub mod cede;
-pub mod register;
+pub mod event;
+pub mod kept;
+pub mod treaties;

@@ -1,4 +1,4 @@
-// Standings: a year opened, a standing tested, layers' records from a standing and back.
+// Standings: a year opened, a standing tested, a tier borne on lent numbers.
 ghost use mathlib.Core.Path.{_≡_};
 ghost use mathlib.Core.Bool.{true};
 ghost use Rattle.programme.specs.Contracts.{contractsIn};
@@ -11,8 +11,9 @@ use programme::valid;
 use year::Opening;
 use year::Standing;
 
-pub mod records;
+pub mod terms;
 pub mod test;
+pub mod tier;
 
 // The refusal of a standing that breaks a rule.
 pub const NOT_A_STANDING: u64 = 8;

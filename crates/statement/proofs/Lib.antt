@@ -1,4 +1,4 @@
-pub mod Keeps
-pub mod Rows
+pub mod LineSizes
+pub mod LinePasses
 pub mod Pieced
-pub mod Shown
+pub mod Least

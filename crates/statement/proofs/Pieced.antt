@@ -1,7 +1,7 @@
 -- A line of a statement that is put piece by piece, each piece with the number after it, is its template, filled. What
 -- follows a piece in the template is found by computing, so that a piece that differs by a byte is refused.
 -- Assumes nothing.
-use mathlib.Core.Path.{_≡_, refl}
+use mathlib.Core.Path.{_≡_, refl, sym, ap}
 use mathlib.Core.List.{List, [], _∷_, _++_}
 use Prim.Native.Nat.{ℕ, _+_, _≤_}
 use native.Mathlib.Omega.{arith}
@@ -9,12 +9,13 @@ use lib.ListN.{length, take, drop, getD}
 use lib.Seq.{take-at}
 use Rattle.text.specs.Buffer.{Put}
 use Rattle.text.specs.Bytes.{bytes}
-use Rattle.text.specs.Number.{digits}
+use Rattle.text.specs.Number.{printedBy, printed, digits}
 use Rattle.text.specs.Template.{capital, holes, filled}
 use Rattle.text.proofs.Puts.{put-whole, put-append}
 use Rattle.text.proofs.Pieces.{none-pieced, field-put, piece-put, rest-pieced, last-put}
 use Rattle.year.specs.Statement.{eventTemplate, treatyTemplate, riskTemplate, catTemplate, totalTemplate}
-use Rattle.statement.specs.LineKinds.{templateOf, widthOf, amountsTail, lastTail, figuresTail}
+use Rattle.year.specs.Statement.{amountsNumbers, added}
+use Rattle.statement.specs.LineKinds.{templateOf, widthOf, ownBytes, amountsTail, lastTail, figuresTail}
 use Rattle.statement.specs.declared.row.Kind.{Kind}
 
 -- a piece, and a number
@@ -65,6 +66,14 @@ module _ (ns : List ℕ) {d d₁ d₂ : List ℕ} {at a₁ end : ℕ} where
       let g₂ = field-put (bytes " (ceded ") _ _ g₁ refl refl p₂ 2 refl in
       last-put (bytes "))") g₂ refl p₃
 
+-- the line of an event without losses, the zeros among the bytes of its last piece
+pub idle-put : (n : ℕ) {d d₁ d₂ d₃ : List ℕ} {at a₁ a₂ end : ℕ} → Put d at (bytes "(event ") d₁ a₁
+    → Put d₁ a₁ (digits n) d₂ a₂
+    → Put d₂ a₂ (bytes " (gross 0) (ceded 0) (risk 0) (cat 0) (net 0) (premium 0))\n") d₃ end
+    → Put d at (filled eventTemplate (n ∷ amountsNumbers (added [])) (10 ∷ [])) d₃ end
+unfolding filled capital printed printedBy
+idle-put n p₁ p₂ p₃ = event-put (n ∷ amountsNumbers (added [])) (both-put (bytes "(event ") n p₁ p₂) p₃
+
 -- the amounts of an event or of a run, from the place k of a line's numbers on: the last three, and all six
 module _ (ns : List ℕ) (k : ℕ) {d d₁ d₂ d₃ d₄ : List ℕ} {at a₁ a₂ a₃ end : ℕ} where
   pub last-amounts : Put d at (bytes ") (cat " ++ digits (getD ns k 0)) d₁ a₁
@@ -114,6 +123,9 @@ figures-put ns {d} {at = at} p₁ p₂ p₃ p₄ p₅ =
 module _ {f k : Kind} (e : f ≡ k) where
   pub known-width : {n : ℕ} → widthOf f ≤ n → widthOf k ≤ n
   known-width h = rw e at h
+
+  pub known-own : ownBytes k ≡ ownBytes f
+  known-own = sym (ap ownBytes e)
 
   pub known-put : (ns : List ℕ) {d d′ : List ℕ} {at next : ℕ} → Put d at (filled (templateOf k) ns (10 ∷ [])) d′ next
       → Put d at (filled (templateOf f) ns (10 ∷ [])) d′ next

@@ -1,3 +1,2 @@
-pub mod Numbers
 pub mod LineKinds
-pub mod Shows
+pub mod TreatyLines

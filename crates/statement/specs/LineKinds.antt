@@ -1,7 +1,8 @@
 -- Document 01, Events and statement: the kinds of a statement's lines.
 -- Assumes nothing.
 use mathlib.Core.List.{List}
-use Prim.Native.Nat.{ℕ, _+_, _*_}
+use Prim.Native.Nat.{ℕ, _+_, _-_}
+use lib.ListN.{length}
 use Rattle.text.specs.Bytes.{bytes}
 use Rattle.year.specs.Statement.{eventTemplate, treatyTemplate, riskTemplate, catTemplate, totalTemplate}
 use Rattle.statement.specs.declared.row.Kind.{Kind}
@@ -23,9 +24,13 @@ widthOf Risk = 5
 widthOf Cat = 5
 widthOf Total = 6
 
--- the most numbers that the lines after the events' have: of eight treaties, of eight layers a tier and of the totals
-abbrev pub restWidth : ℕ
-restWidth = 8 * widthOf Treaty + 8 * widthOf Risk + 8 * widthOf Cat + widthOf Total
+-- how many bytes of its line stand for themselves, with the line feed
+abbrev pub ownBytes : Kind → ℕ
+ownBytes f = length (templateOf f) + 1 - widthOf f
+
+-- the fewest bytes that a statement has: those of the line of the totals, each number one digit, and the line feed
+abbrev pub leastBytes : ℕ
+leastBytes = length totalTemplate + 1
 
 -- what ends an event's template and the totals'
 abbrev pub amountsTail : List ℕ

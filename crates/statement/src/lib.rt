@@ -1,4 +1,4 @@
-// The statement: the numbers of its lines, kept one after another, and its text.
-pub mod keep;
+// The lines of a statement, put into a lent buffer.
+pub mod lines;
 pub mod print;
 pub mod row;

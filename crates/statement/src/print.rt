@@ -1,31 +1,20 @@
-// A statement's text from the numbers of its lines.
+// The text of a line from its row, by its kind: a piece of the line and the number after it in turn, or the length
+// alone.
 ghost use mathlib.Core.List.{[], _∷_, _++_};
 ghost use mathlib.Core.Path.{_≡_};
-ghost use Prim.Native.Nat.{_+_, _*_, _^_, _≤_, _<_};
+ghost use Prim.Native.Nat.{_+_, _^_, _≤_, _<_};
 ghost use lib.ListN.{length, drop, getD};
 ghost use Rattle.text.specs.Buffer.{Put};
 ghost use Rattle.text.specs.Number.{digits};
 ghost use Rattle.text.specs.Template.{filled};
 ghost use Rattle.year.specs.Statement.{eventTemplate, treatyTemplate, riskTemplate, catTemplate, totalTemplate};
-ghost use Rattle.year.specs.Statement.{Statement, statementText};
 ghost use Rattle.statement.specs.declared.row.Kind.the-variants.{Event, Treaty, Risk, Cat, Total};
-ghost use Rattle.statement.specs.Numbers.{rowsText};
-ghost use Rattle.statement.specs.LineKinds.{templateOf, widthOf, amountsTail, lastTail, figuresTail};
-ghost use Rattle.statement.specs.Shows.{linesIn, Fits, Shows};
-use crate::row;
+ghost use Rattle.statement.specs.LineKinds.{templateOf, widthOf, ownBytes, amountsTail, lastTail, figuresTail};
 use crate::row::Kind;
 use text::buffer;
 use text::number;
 
-// How many lines of each kind a statement has, but for its last.
-pub struct Counts {
-    pub events: usize,
-    pub treaties: usize,
-    pub risk: usize,
-    pub cat: usize,
-}
-
-// The fewest bytes that it has: those of the totals' line, each number one digit, and the line feed.
+// The fewest bytes that a statement has: those of the totals' line, each number one digit, and the line feed.
 pub const SHORTEST: usize = 65;
 
 // No line has more bytes, whatever its numbers are, its line feed included.
@@ -41,6 +30,19 @@ const RISK_BYTES: usize = 61;
 const CAT_BYTES: usize = 60;
 
 const TOTAL_BYTES: usize = 59;
+
+// Those of a line of some kind.
+fn own_bytes(kind: Kind) -> usize
+    ensures { λ r. ⌜ r ≡ ownBytes kind ⌝ }
+{
+    match kind {
+        Kind::Event => EVENT_BYTES,
+        Kind::Treaty => TREATY_BYTES,
+        Kind::Risk => RISK_BYTES,
+        Kind::Cat => CAT_BYTES,
+        Kind::Total => TOTAL_BYTES,
+    }
+}
 
 // A piece of a line and the number after it, which stands at a place of the line's numbers, where there is room for
 // them.
@@ -92,7 +94,7 @@ fn put_figures(out: &mut [u8], at: usize, row: &[u64]) -> usize
 }
 
 // The line of an event, with its line feed, where there is room for one: 60 bytes and seven numbers.
-fn put_event(out: &mut [u8], at: usize, row: &[u64]) -> usize
+pub fn put_event(out: &mut [u8], at: usize, row: &[u64]) -> usize
     requires { ⌜ (at + 200 ≤ length (now out)) × (widthOf Event ≤ length (now row)) ⌝ }
     ensures { λ r. ⌜ Put (now (out .entry)) at (filled eventTemplate (now (row .entry)) (10 ∷ []))
         (now (out .exit)) r × (r ≤ at + 200) ⌝ }
@@ -133,7 +135,7 @@ fn put_cat(out: &mut [u8], at: usize, row: &[u64]) -> usize
 }
 
 // That of the totals.
-fn put_total(out: &mut [u8], at: usize, row: &[u64]) -> usize
+pub fn put_total(out: &mut [u8], at: usize, row: &[u64]) -> usize
     requires { ⌜ (at + 200 ≤ length (now out)) × (widthOf Total ≤ length (now row)) ⌝ }
     ensures { λ r. ⌜ Put (now (out .entry)) at (filled totalTemplate (now (row .entry)) (10 ∷ []))
         (now (out .exit)) r × (r ≤ at + 200) ⌝ }
@@ -168,71 +170,25 @@ fn put_cut(out: &mut [u8], at: usize, kind: Kind, row: &[u64]) -> usize
     buffer::put_bytes(out, at, &line[..end])
 }
 
-// A line with its line feed.
-fn put_line(out: &mut [u8], at: usize, kind: Kind, row: &[u64]) -> usize
-    requires { ⌜ (at < 2 ^ 41) × (widthOf kind ≤ length (now row)) ⌝ }
+// How many bytes a line has, its line feed included: those that stand for themselves, and the digits.
+fn size(kind: Kind, row: &[u64]) -> usize
+    requires { ⌜ length (now row) ≡ widthOf kind ⌝ }
+    ensures { λ r. ⌜ (r ≡ length (filled (templateOf kind) (now (row .entry)) (10 ∷ []))) × (r ≤ 200) ⌝ }
+{
+    own_bytes(kind) + number::sizes(row)
+}
+
+// A line with its line feed. Where there is no buffer it is only measured.
+pub fn put_line(out: &mut [u8], at: usize, kind: Kind, row: &[u64]) -> usize
+    requires { ⌜ (at < 2 ^ 41) × (length (now row) ≡ widthOf kind) ⌝ }
     ensures { λ r. ⌜ Put (now (out .entry)) at (filled (templateOf kind) (now (row .entry)) (10 ∷ []))
         (now (out .exit)) r × (r ≤ at + 200) ⌝ }
 {
     if at + LONGEST_LINE <= out.len() {
         return put_within(out, at, kind, row);
     }
-    put_cut(out, at, kind, row)
-}
-
-// A line for each of `count` rows of the numbers from a place on.
-fn put_lines(
-    out: &mut [u8],
-    at: usize,
-    kind: Kind,
-    count: usize,
-    numbers: &[u64],
-    from: usize,
-) -> usize
-    requires { ⌜ (at < 2 ^ 40) × (count < 2 ^ 16) × (from + count * widthOf kind ≤ length (now numbers)) ⌝ }
-    ensures { λ r. ⌜ Put (now (out .entry)) at
-        (rowsText (templateOf kind) (widthOf kind) count (drop from (now (numbers .entry)))) (now (out .exit)) r
-        × (r ≤ at + 200 * count) ⌝ }
-{
-    let wide = row::width(kind);
-    let mut next = at;
-    let mut begin = from;
-    let mut i: usize = 0;
-    while i < count {
-        let end = begin + wide;
-        next = put_line(out, next, kind, &numbers[begin..end]);
-        begin = end;
-        i += 1;
+    if out.len() == 0 {
+        return at + size(kind, row);
     }
-    next
-}
-
-// The whole text from the front of a buffer, from the numbers of all lines.
-pub fn put_statement(out: &mut [u8], numbers: &[u64], counts: Counts) -> usize
-    requires { ⌜ Fits (now numbers) counts ⌝ }
-    ensures { λ r. ⌜ ((t : Statement) → Shows t (now (numbers .entry)) counts
-        → Put (now (out .entry)) 0 (statementText t) (now (out .exit)) r) × (r ≤ 200 * linesIn counts) ⌝ }
-{
-    let treaties = row::EVENT * counts.events;
-    let risk = treaties + row::TREATY * counts.treaties;
-    let cat = risk + row::LAYER * counts.risk;
-    let total = cat + row::LAYER * counts.cat;
-    let first = put_lines(out, 0, Kind::Event, counts.events, numbers, 0);
-    let second = put_lines(out, first, Kind::Treaty, counts.treaties, numbers, treaties);
-    let third = put_lines(out, second, Kind::Risk, counts.risk, numbers, risk);
-    let fourth = put_lines(out, third, Kind::Cat, counts.cat, numbers, cat);
-    put_lines(out, fourth, Kind::Total, 1, numbers, total)
-}
-
-// How many bytes it has: those that stand for themselves in each kind of line, with its line feed, and the digits.
-pub fn measure(numbers: &[u64], counts: Counts) -> usize
-    requires { ⌜ Fits (now numbers) counts ⌝ }
-    ensures { λ r. ⌜ ((t : Statement) → Shows t (now (numbers .entry)) counts → r ≡ length (statementText t)) ⌝ }
-{
-    let lines = EVENT_BYTES * counts.events
-        + TREATY_BYTES * counts.treaties
-        + RISK_BYTES * counts.risk
-        + CAT_BYTES * counts.cat
-        + TOTAL_BYTES;
-    lines + number::sizes(numbers)
+    put_cut(out, at, kind, row)
 }

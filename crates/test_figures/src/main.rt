@@ -1,16 +1,16 @@
 // The checked figures of document 01, and those of document 02 on event limits and the nearest cent, computed by the
 // code: a line each, held to the stored output.
-ghost use mathlib.Core.Path.{_≡_};
 ghost use Prim.Native.Nat.{_+_, _^_, _≤_};
+ghost use lib.ListN.{take};
 ghost use Rattle.treaty.specs.Ranges.{TermsInRange, LossInRange};
 ghost use Rattle.layer.specs.Layer.{termsOf};
-ghost use Rattle.layer.specs.Ranges.{InRange, Sound, SoundTier};
+ghost use Rattle.layer.specs.Ranges.{InRange, Sound, SoundLayers};
 use layer::amount::Placed;
 use layer::amount::Whole;
 use layer::record::Layer;
 use layer::record::Sums;
 use layer::terms::Terms;
-use layer::tier::Tier;
+use layer::tier;
 use libc::STDOUT_FILENO;
 use treaty::Loss;
 use treaty::Treaty;
@@ -150,7 +150,7 @@ fn surplus_figures() {
 // A layer with nothing spent, from the numbers of its line: (band A L) (deduct D) (back K Q P) (placed S).
 fn layer(a: u64, l: u64, d: u64, k: u64, q: u64, p: u64, s: u64) -> Layer
     requires { ⌜ InRange (termsOf a l d k q p s) ⌝ }
-    ensures { λ r. ⌜ Sound r × (r .terms .attachment ≡ a) × (r .terms .limit ≡ l) ⌝ }
+    ensures { λ r. ⌜ Sound r ⌝ }
 {
     let terms = Terms {
         attachment: a,
@@ -237,22 +237,26 @@ fn layer_figures() {
     );
 }
 
-// The catastrophe tier of H1.
-fn cat_tier() -> Tier
-    ensures { λ r. ⌜ SoundTier r ⌝ }
+// The catastrophe tier of H1: its layers stand in the first three places.
+fn cat_layers() -> [Layer; tier::PLACES]
+    ensures { λ r. ⌜ SoundLayers (take 3 r) ⌝ }
 {
     let first = layer(25000000, 75000000, 75000000, 0, 0, 0, 10000);
     let second = layer(100000000, 150000000, 0, 1, 5000, 75000000, 8000);
     let third = layer(250000000, 150000000, 0, 1, 10000, 30000000, 7200);
-    let mut layers = [first; 8];
+    let mut layers = [first; tier::PLACES];
     layers[1] = second;
     layers[2] = third;
-    Tier { layers, count: 3 }
+    layers
 }
 
 // One subject to every layer of a tier: recoveries and premiums, added.
 fn tier_figures() {
-    let borne = cat_tier().bear(&[350000000]);
+    let none = Sums {
+        recovered: Placed::none(),
+        premium: Placed::none(),
+    };
+    let borne = tier::bear_first(cat_layers(), 3, &[350000000], none);
     let sums = borne.sums;
     io::write_all(STDOUT_FILENO, b"H1 tier");
     amount(sums.recovered.cents());

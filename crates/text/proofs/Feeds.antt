@@ -112,7 +112,7 @@ pub byte-begins : (b : ℕ) (s : List ℕ) → (b ≡ 10 → ⊥) → linesOf (b
 unfolding linesOf
 byte-begins b s h = simp (linesOf, ne-eqb b 10 h)
 
-line-and-rest : (l s : List ℕ) → NoFeed l → linesOf (l ++ (10 ∷ s)) ≡ some l ∷ linesOf s
+pub line-and-rest : (l s : List ℕ) → NoFeed l → linesOf (l ++ (10 ∷ s)) ≡ some l ∷ linesOf s
 unfolding linesOf
 line-and-rest [] s z = refl
 line-and-rest (b ∷ l) s z = byte-begins b (l ++ (10 ∷ s)) (z .0) ∙ ap (beginning b) (line-and-rest l s (z .1))
@@ -165,7 +165,7 @@ unfoldable pub feedless : List ℕ → Bool
 feedless [] = true
 feedless (b ∷ t) = elim (eqb b 10) [ true ↦ false | false ↦ feedless t ]
 
-feedless-first : (b : ℕ) (t : List ℕ) → feedless (b ∷ t) ≡ true → (b ≡ 10 → ⊥) × (feedless t ≡ true)
+pub feedless-first : (b : ℕ) (t : List ℕ) → feedless (b ∷ t) ≡ true → (b ≡ 10 → ⊥) × (feedless t ≡ true)
 unfolding feedless
 feedless-first b t g =
     by-eq b 10

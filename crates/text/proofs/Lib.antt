@@ -17,6 +17,7 @@ pub mod Lengths
 pub mod Filling
 pub mod Pieces
 pub mod Feeds
+pub mod FirstLine
 pub mod FirstFeed
 pub mod Borrows
 pub mod Cuts

@@ -3,7 +3,6 @@ pub mod Layers
 pub mod Balance
 pub mod Parts
 pub mod StatementsTell
-pub mod Shown
 pub mod Size
 pub mod StatementLayout
 pub mod Worked

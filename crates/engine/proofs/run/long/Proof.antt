@@ -10,7 +10,7 @@ slice-aggregate-through : tie.Need-slice-aggregate-through
 slice-aggregate-through c = search needs
 
 through-requires : tie.Need-through-requires
-through-requires c κs = law.with-places 65536 45978 0 _ _ _ (lit≤ tt) (lit≤ tt) (search needs)
+through-requires c κs = law.with-places 65536 15124 0 (lit≤ tt) (lit≤ tt) (search needs)
 
 same-length : tie.Need-same-length
 same-length c = search needs

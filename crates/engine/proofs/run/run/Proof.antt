@@ -1,8 +1,15 @@
 -- `engine::run::run` meets its contract.
 -- Assumes nothing.
-use mathlib.Core.Path.{sym, _∙_}
+use mathlib.Core.Path.{_≡_, sym, _∙_}
+use Prim.Native.Nat.{_≤_}
+use mathlib.Core.Bool.{true}
 use borrow.Author.Needs.{needs}
+use lib.ListN.{length}
+use lib.Seq.{length-take-le}
+use Rattle.programme.specs.Valid as Valid
+use Rattle.programme.proofs.Validity.{valid-tells, few-risk, few-cat}
 use Rattle.engine.proofs.RunTests as law
+use Rattle.engine.proofs.LayingOut as numbers
 use Rattle.engine.proofs.run.run.Statement.{statement}
 use Rattle.engine.proofs.run.run.Tie as tie
 
@@ -16,6 +23,31 @@ module _ (c : tie.After-passes) where
 
   abbrev start : tie.Start
   start = held .before .before .before
+
+  is-valid : Valid.valid (start .args .programme) ≡ true
+  is-valid = sym (held .holds .ensures) ∙ valid .if1 .taken
+
+  few-risk-layers : start .args .programme .risk .count ≤ 8
+  few-risk-layers = few-risk (start .args .programme) is-valid
+
+  few-cat-layers : start .args .programme .cat .count ≤ 8
+  few-cat-layers = few-cat (start .args .programme) is-valid
+
+-- those where the treaties were laid out, from there on
+module _ (c : tie.After-register-of) where
+  abbrev tested : tie.After-passes
+  tested = c .before .before .before
+
+module _ (c : tie.After-laid-out2) where
+  abbrev registered : tie.After-register-of
+  registered = c .before .before
+
+-- a standing has eight places a tier
+eight-risk : (c : tie.Start) → length (c .args .standing .risk) ≡ 8
+eight-risk c = search needs
+
+eight-cat : (c : tie.Start) → length (c .args .standing .cat) ≡ 8
+eight-cat c = search needs
 
 holds-requires : tie.Need-holds-requires
 holds-requires c κs = search needs
@@ -51,20 +83,69 @@ returns-3 c =
     law.too-long _ _ _ (start t .args .buffer .now) _ (held t .holds .ensures) (valid t .if1 .taken) _
     (t .passes .ensures) (stands .if2 .taken) (c .before .if3 .taken) _ (c .refused3 .ensures)
 
+mul-risk-end : tie.Need-mul-risk-end
+mul-risk-end c =
+    let few = few-risk-layers (tested (registered (c .before))) in
+    search needs
+
+mul-cat-end : tie.Need-mul-cat-end
+mul-cat-end c =
+    let few = few-cat-layers (tested (registered (c .before .before))) in
+    search needs
+
+register-of-requires : tie.Need-register-of-requires
+register-of-requires c κs = valid-tells _ (is-valid (c .before .before)) .0
+
+laid-out-requires : tie.Need-laid-out-requires
+laid-out-requires c κs = few-risk-layers (tested c)
+
+laid-out-requires-2 : tie.Need-laid-out-requires-2
+laid-out-requires-2 c κs = few-cat-layers (tested (c .before))
+
+slice-aggregate-placed : tie.Need-slice-aggregate-placed
+slice-aggregate-placed c = search needs
+
+array-share-prefix-risk : tie.Need-array-share-prefix-risk
+array-share-prefix-risk c =
+    let few = few-risk-layers (tested (registered (c .before .before .before))) in
+    search needs
+
+slice-aggregate-placed-2 : tie.Need-slice-aggregate-placed-2
+slice-aggregate-placed-2 c = sym (length-take-le _ _ (array-share-prefix-risk (c .before)))
+
+array-share-prefix-cat : tie.Need-array-share-prefix-cat
+array-share-prefix-cat c =
+    let few = few-cat-layers (tested (registered (c .before .before .before .before))) in
+    search needs
+
+slice-aggregate-placed-3 : tie.Need-slice-aggregate-placed-3
+slice-aggregate-placed-3 c = sym (length-take-le _ _ (array-share-prefix-cat (c .before)))
+
 placed-requires : tie.Need-placed-requires
-placed-requires c κs = search law.can-run
+placed-requires c κs =
+    let o = c .before .before .before .before .before .before in
+    let short = registered o .before in
+    let t = tested (registered o) in
+    numbers.can-run (start t .args .programme) (start t .args .standing) (is-valid t)
+    (sym (t .passes .ensures) ∙ short .before .if2 .taken) (eight-risk (start t)) (eight-cat (start t)) _ _ _
+    (registered o .register-of .ensures) (o .before .laid-out .ensures) (o .laid-out2 .ensures)
+    (short .if3 .left)
 
 same-length : tie.Need-same-length
 same-length c = search needs
 
 returns-4 : tie.Need-returns-4
 returns-4 c =
-    let ran = c .before .before in
-    let fits = ran .before .before in
-    let stands = fits .before in
-    let t = stands .before in
+    let placed = c .before .before in
+    let o = placed .before .before .before .before .before .before .before in
+    let short = registered o .before in
+    let t = tested (registered o) in
     law.by-lines _ _ _ (start t .args .buffer .now) _ (held t .holds .ensures) (valid t .if1 .taken) _
-    (t .passes .ensures) (stands .if2 .taken) (fits .if3 .left) _ _ (ran .placed .ensures)
+    (t .passes .ensures) (short .before .if2 .taken) (short .if3 .left) _ _
+    (numbers.as-laid-out (start t .args .programme) (start t .args .standing) (is-valid t)
+    (sym (t .passes .ensures) ∙ short .before .if2 .taken) (eight-risk (start t)) (eight-cat (start t)) _ _ _
+    (registered o .register-of .ensures) (o .before .laid-out .ensures) (o .laid-out2 .ensures)
+    _ (start t .args .buffer .now) _ _ _ (placed .placed .ensures))
 
 pub run-spec : {M : Type 1} → statement M
 run-spec =
@@ -78,6 +159,16 @@ run-spec =
     returns-2
     refused-requires-3
     returns-3
+    register-of-requires
+    laid-out-requires
+    laid-out-requires-2
+    mul-risk-end
+    mul-cat-end
+    slice-aggregate-placed
+    array-share-prefix-risk
+    slice-aggregate-placed-2
+    array-share-prefix-cat
+    slice-aggregate-placed-3
     placed-requires
     same-length
     returns-4)

@@ -1,42 +1,43 @@
 -- `engine::run::through` meets its contract.
 -- Assumes nothing.
 use mathlib.Core.Path.{refl}
+use Prim.Native.Nat.{_≤_}
 use borrow.Author.Needs.{needs}
-use Rattle.programme.proofs.Validity.{valid-tells}
 use Rattle.engine.proofs.RunLines as law
 use Rattle.engine.proofs.run.through.Statement.{statement}
 use Rattle.engine.proofs.run.through.Tie as tie
 
--- the places where the lines were passed, the records begun and the register made, and where the function starts
-module _ (c : tie.After-pass) where
-  abbrev begun : tie.After-first
-  begun = c .before .before .before
-
-  abbrev registered : tie.After-register-of
-  registered = begun .before
-
+-- the places where the function starts, where the lines were read, and where none was at fault
+module _ (c : tie.After-read) where
   abbrev start : tie.Start
-  start = registered .before .before .before .before .before
+  start = c .before .before .before .before .before .before .before .before
 
--- those where no line was at fault, and where the other numbers were kept
-module _ (c : tie.After-keep-rest) where
+module _ (c : tie.Else1) where
+  abbrev found : tie.After-read
+  found = c .before .before .before
+
+module _ (c : tie.After-count2) where
   abbrev fine : tie.Else1
-  fine = c .before .before .before .before .before
+  fine = c .before .before
 
-  abbrev passed : tie.After-pass
-  passed = fine .before .before .before .before
+  -- what the room is counted from is small
+  idle-small : found fine .read .result .idle ≤ 7562
+  idle-small =
+      law.idle-small (start (found fine) .pre .0) (start (found fine) .pre .1) _ _ (found fine .read .ensures)
+      (fine .if1 .left)
 
-register-of-requires : tie.Need-register-of-requires
-register-of-requires c κs = valid-tells _ (c .before .before .before .before .pre .0 .programme) .0
+  entered-small : found fine .read .result .entered ≤ 7562
+  entered-small =
+      law.entered-small (start (found fine) .pre .0) (start (found fine) .pre .1) _ _ (found fine .read .ensures)
+      (fine .if1 .left)
 
-first-requires : tie.Need-first-requires
-first-requires c κs = search needs
+  tiers-small : (c .before .count .result ≤ 8) × (c .count2 .result ≤ 8)
+  tiers-small =
+      law.tiers-small (start (found fine) .pre .0) (start (found fine) .pre .1) _ _ (found fine .read .ensures)
+      (fine .if1 .left) _ _ (c .before .count .ensures) (c .count2 .ensures)
 
-slice-aggregate-pass : tie.Need-slice-aggregate-pass
-slice-aggregate-pass c = search needs
-
-pass-requires : tie.Need-pass-requires
-pass-requires c κs = search law.can-pass
+read-requires : tie.Need-read-requires
+read-requires c κs = search needs
 
 refused-requires : tie.Need-refused-requires
 refused-requires c κs = search needs
@@ -46,47 +47,67 @@ same-length c = search needs
 
 returns : tie.Need-returns
 returns c =
-    let p = c .before .before .before .before .before in
-    law.line-refused (start p .pre .0) (start p .pre .1) (begun p .first .ensures) (registered p .register-of .ensures)
-    _ _ _ (p .pass .ensures) _ _ _ _ _ refl refl (c .before .if1 .taken) (c .refused .ensures)
+    let r = c .before .before .before .before in
+    law.line-refused (start r .pre .0) (start r .pre .1) _ _ (r .read .ensures) (c .before .if1 .taken) _ _ _
+    (c .refused .ensures)
 
-slice-aggregate-keep-rest : tie.Need-slice-aggregate-keep-rest
-slice-aggregate-keep-rest c = search needs
+count-requires : tie.Need-count-requires
+count-requires c κs = search needs
 
-keep-rest-requires : tie.Need-keep-rest-requires
-keep-rest-requires c κs =
-    let f = c .before .before .before .before in
-    let p = f .before .before .before .before in
-    law.can-keep (start p .pre .0) (start p .pre .1) (begun p .first .ensures) (registered p .register-of .ensures)
-    _ _ _ (p .pass .ensures) (f .if1 .left)
+add-rest : tie.Need-add-rest
+add-rest c = search needs
 
-standing-requires : tie.Need-standing-requires
-standing-requires c κs =
-    let k = c .before .before in
-    let p = passed k in
-    law.records-sound (start p .pre .0) (start p .pre .1) (begun p .first .ensures)
-    (registered p .register-of .ensures) _ _ _ (p .pass .ensures) (fine k .if1 .left)
+count-requires-2 : tie.Need-count-requires-2
+count-requires-2 c κs = search needs
+
+add-rest-2 : tie.Need-add-rest-2
+add-rest-2 c = search needs
+
+add-rest-3 : tie.Need-add-rest-3
+add-rest-3 c = search needs
+
+mul-room : tie.Need-mul-room
+mul-room c =
+    let small = idle-small (c .before) in
+    search needs
+
+add-room : tie.Need-add-room
+add-room c =
+    let small = entered-small (c .before .before) in
+    let few = tiers-small (c .before .before) in
+    search needs
+
+mul-room-2 : tie.Need-mul-room-2
+mul-room-2 c =
+    let small = entered-small (c .before .before) in
+    let few = tiers-small (c .before .before) in
+    search needs
+
+add-room-2 : tie.Need-add-room-2
+add-room-2 c =
+    let idle = idle-small (c .before .before) in
+    let small = entered-small (c .before .before) in
+    let few = tiers-small (c .before .before) in
+    search needs
 
 slice-reshare-prefix-write : tie.Need-slice-reshare-prefix-write
 slice-reshare-prefix-write c =
-    let k = c .before .before .before in
-    let p = passed k in
-    law.end-inside (start p .pre .0) (start p .pre .1) (begun p .first .ensures) (registered p .register-of .ensures)
-    _ _ _ (p .pass .ensures) (fine k .if1 .left) _ _ (k .keep-rest .ensures .0) (k .keep-rest .ensures .1)
+    let f = fine (c .before .before) in
+    law.end-inside (start (found f) .pre .0) (start (found f) .pre .1) _ _ (found f .read .ensures) (f .if1 .left)
 
 slice-aggregate-write : tie.Need-slice-aggregate-write
 slice-aggregate-write c =
-    let k = c .before .before .before .before in
-    let p = passed k in
-    law.end-kept (start p .pre .0) (start p .pre .1) (begun p .first .ensures) (registered p .register-of .ensures)
-    _ _ _ (p .pass .ensures) (fine k .if1 .left) _ _ (k .keep-rest .ensures .0) (k .keep-rest .ensures .1)
+    let f = fine (c .before .before .before) in
+    law.end-kept (start (found f) .pre .0) (start (found f) .pre .1) _ _ (found f .read .ensures) (f .if1 .left)
 
 write-requires : tie.Need-write-requires
 write-requires c κs =
-    let k = c .before .before .before .before .before in
-    let p = passed k in
-    law.fits (start p .pre .0) (start p .pre .1) (begun p .first .ensures) (registered p .register-of .ensures)
-    _ _ _ (p .pass .ensures) (fine k .if1 .left) _ _ (k .keep-rest .ensures .0) (k .keep-rest .ensures .1)
+    let k = c .before .before .before .before in
+    let f = fine k in (
+      law.can-state (start (found f) .pre .0) (start (found f) .pre .1) _ _ (found f .read .ensures) (f .if1 .left),
+      law.room-for (start (found f) .pre .0) (start (found f) .pre .1) _ _ (found f .read .ensures) (f .if1 .left)
+          _ _ (k .before .count .ensures) (k .count2 .ensures) _ refl,
+    )
 
 same-length-2 : tie.Need-same-length-2
 same-length-2 c = search needs
@@ -96,28 +117,28 @@ same-length-3 c = search needs
 
 returns-2 : tie.Need-returns-2
 returns-2 c =
-    let written = c .before .before in
-    let after = written .before .before .before in
-    let k = after .before .before .before in
-    let p = passed k in
-    law.states (start p .pre .0) (start p .pre .1) (begun p .first .ensures) (registered p .register-of .ensures)
-    _ _ _ (p .pass .ensures) (fine k .if1 .left) _ _ (k .keep-rest .ensures .0) (k .keep-rest .ensures .1) _
-    (after .standing .ensures) (start p .args .buffer .now) _ _ (written .write .ensures)
+    let w = c .before .before in
+    let f = fine (w .before .before .before .before .before) in
+    law.as-run (start (found f) .pre .0) (start (found f) .pre .1) _ _ (found f .read .ensures) (f .if1 .left)
+    (start (found f) .args .buffer .now) _ _ (w .write .ensures)
 
 pub through-spec : {M : Type 1} → statement M
 through-spec =
     tie.close
     (tie.spec
-    register-of-requires
-    first-requires
-    slice-aggregate-pass
-    pass-requires
+    read-requires
     refused-requires
     same-length
     returns
-    slice-aggregate-keep-rest
-    keep-rest-requires
-    standing-requires
+    count-requires
+    add-rest
+    count-requires-2
+    add-rest-2
+    add-rest-3
+    mul-room
+    add-room
+    mul-room-2
+    add-room-2
     slice-reshare-prefix-write
     slice-aggregate-write
     write-requires

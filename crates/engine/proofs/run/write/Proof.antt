@@ -5,23 +5,8 @@ use Rattle.engine.proofs.Writing as law
 use Rattle.engine.proofs.run.write.Statement.{statement}
 use Rattle.engine.proofs.run.write.Tie as tie
 
-add-lines : tie.Need-add-lines
-add-lines c = search needs
-
-add-lines-2 : tie.Need-add-lines-2
-add-lines-2 c = search needs
-
-add-lines-3 : tie.Need-add-lines-3
-add-lines-3 c = search needs
-
-add-lines-4 : tie.Need-add-lines-4
-add-lines-4 c = search needs
-
-mul-if1 : tie.Need-mul-if1
-mul-if1 c = search needs
-
-put-statement-requires : tie.Need-put-statement-requires
-put-statement-requires c κs = search needs
+state-requires : tie.Need-state-requires
+state-requires c κs = search needs
 
 written-requires : tie.Need-written-requires
 written-requires c κs = search needs
@@ -30,7 +15,12 @@ same-length : tie.Need-same-length
 same-length c = search needs
 
 returns : tie.Need-returns
-returns c = search law.at-once
+returns c es q =
+    let stated = c .before .before .before .before in
+    let fits = stated .before .before in
+    let start = fits .before .before .before .before .before .before in
+    law.at-once _ _ _ _ _ (stated .state .ensures es q) (start .pre .1 .enough es q) (fits .if1 .taken) _
+    (c .written .ensures)
 
 write-measured-requires : tie.Need-write-measured-requires
 write-measured-requires c κs = search needs
@@ -45,12 +35,7 @@ pub write-spec : {M : Type 1} → statement M
 write-spec =
     tie.close
     (tie.spec
-    add-lines
-    add-lines-2
-    add-lines-3
-    add-lines-4
-    mul-if1
-    put-statement-requires
+    state-requires
     written-requires
     same-length
     returns

@@ -1,2 +1,0 @@
-pub mod LossPass
-pub mod LinePass

@@ -1,0 +1,73 @@
+// A tier's terms as numbers in a lent slice: those of one layer in the order of its line, one layer's after another's.
+// No other file knows where a number stands.
+ghost use mathlib.Core.List.{[]};
+ghost use mathlib.Core.Path.{_≡_};
+ghost use Prim.Native.Nat.{_<_};
+ghost use lib.ListN.{length, getD};
+ghost use Rattle.layer.specs.Layer.{layerOf};
+ghost use Rattle.layer.specs.Numbers.{termsWidth, termsFrom, tierFrom, termsNumbers};
+use crate::amount::Whole;
+use crate::record::Layer;
+use crate::terms::Terms;
+
+// How many numbers a layer's terms have.
+pub const WIDTH: usize = 7;
+
+// The terms of one layer as numbers.
+pub fn numbers_of(terms: Terms) -> [u64; WIDTH]
+    ensures { λ r. ⌜ r ≡ termsNumbers terms ⌝ }
+{
+    [
+        terms.attachment,
+        terms.limit,
+        terms.deductible,
+        terms.reinstatements,
+        terms.rate,
+        terms.premium,
+        terms.placed,
+    ]
+}
+
+// One layer's numbers as terms.
+fn terms_of(own: &[u64]) -> Terms
+    requires { ⌜ length (now own) ≡ termsWidth ⌝ }
+    ensures { λ r. ⌜ r ≡ termsFrom (now (own .entry)) ⌝ }
+{
+    Terms {
+        attachment: own[0],
+        limit: own[1],
+        deductible: own[2],
+        reinstatements: own[3],
+        rate: own[4],
+        premium: own[5],
+        placed: own[6],
+    }
+}
+
+// How many layers the numbers are of.
+pub fn count(terms: &[u64]) -> usize
+    ensures { λ r. ⌜ r ≡ length (tierFrom (now (terms .entry))) ⌝ }
+{
+    terms.len() / WIDTH
+}
+
+// The attachment of the layer in a place.
+pub fn attachment_at(terms: &[u64], place: usize) -> u64
+    requires { ⌜ place < length (tierFrom (now terms)) ⌝ }
+    ensures { λ r. ⌜ r ≡ getD (tierFrom (now (terms .entry))) place (termsFrom []) .attachment ⌝ }
+{
+    terms[WIDTH * place]
+}
+
+// The record of the layer in a place, with the spent amount in the same place.
+pub fn layer_at(terms: &[u64], spent: &[u64], place: usize) -> Layer
+    requires { ⌜ (place < length (tierFrom (now terms))) × (place < length (now spent)) ⌝ }
+    ensures { λ r. ⌜ r
+        ≡ layerOf (getD (tierFrom (now (terms .entry))) place (termsFrom [])) (getD (now (spent .entry)) place 0) ⌝ }
+{
+    let at = WIDTH * place;
+    Layer {
+        terms: terms_of(&terms[at..at + WIDTH]),
+        spent: Whole::new(spent[place]),
+    }
+}

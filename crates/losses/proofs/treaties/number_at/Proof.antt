@@ -1,0 +1,25 @@
+-- `losses::treaties::number_at` meets its contract.
+-- Assumes nothing.
+use borrow.Author.Needs.{needs}
+use Rattle.losses.proofs.TreatyRows.{number-made}
+use Rattle.losses.proofs.treaties.number_at.Statement.{statement}
+use Rattle.losses.proofs.treaties.number_at.Tie as tie
+
+mul-result : tie.Need-mul-result
+mul-result c = search needs
+
+add-result : tie.Need-add-result
+add-result c = search needs
+
+mul-result-2 : tie.Need-mul-result-2
+mul-result-2 c = search needs
+
+shared-slice-read-result : tie.Need-shared-slice-read-result
+shared-slice-read-result c = search needs
+
+returns : tie.Need-returns
+returns c = search number-made
+
+pub number-at-spec : {M : Type 1} → statement M
+number-at-spec =
+    tie.close (tie.spec mul-result add-result mul-result-2 shared-slice-read-result returns)

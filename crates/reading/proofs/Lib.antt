@@ -1,0 +1,2 @@
+pub mod LossRead
+pub mod LineRead

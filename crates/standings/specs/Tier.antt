@@ -1,0 +1,43 @@
+-- Document 01, Layers: a tier's layers through amounts, as far as the amounts reach, from lent terms and the spent
+-- amounts of a standing's places.
+-- Assumes nothing.
+use mathlib.Core.Bool.{true, cond}
+use mathlib.Core.Path.{_≡_}
+use mathlib.Core.List.{List, [], _∷_}
+use Prim.Native.Nat.{ℕ, suc, _≤_, max}
+use lib.Dec.{ltb}
+use lib.ListN.{length}
+use Rattle.lists.specs.Chains.{chained}
+use Rattle.lists.specs.Places.{inPlaces}
+use Rattle.layer.specs.declared.terms.Terms.{Terms}
+use Rattle.layer.specs.declared.record.Layer.{Layer}
+use Rattle.layer.specs.Numbers.{tierFrom}
+use Rattle.programme.specs.Rules.{bandEnd}
+use Rattle.programme.specs.Valid.{layerPasses}
+use Rattle.year.specs.Standing.{spentOf, layersWith, spentPasses}
+
+-- the largest of some amounts, 0 of none
+abbrev pub largestOf : List ℕ → ℕ
+largestOf [] = 0
+largestOf (x ∷ xs) = max x (largestOf xs)
+
+-- how many layers, from the first on, an amount reaches: their attachment is below it
+abbrev pub reachedBy : ℕ → List Terms → ℕ
+reachedBy x [] = 0
+reachedBy x (t ∷ ts) = cond (ltb (t .attachment) x) (suc (reachedBy x ts)) 0
+
+-- the layers of a tier's terms, as numbers, with the spent amounts of a standing's places
+abbrev pub layersFrom : (terms spent : List ℕ) → List Layer
+layersFrom ns ms = layersWith (tierFrom ns) ms
+
+-- a standing's places of these layers
+abbrev pub placesOf : List Layer → List ℕ
+placesOf ls = inPlaces 0 (spentOf ls)
+
+-- Terms and spent amounts that a year may have: at most eight layers in rising bands, no more spent than their caps,
+-- and 0 in the places past them.
+pub record CanBear (ns ms : List ℕ) : Type 0 where
+  pub few : length (tierFrom ns) ≤ 8
+  pub terms : chained layerPasses bandEnd 0 (tierFrom ns) ≡ true
+  pub places : length ms ≡ 8
+  pub spent : spentPasses (tierFrom ns) ms ≡ true
