@@ -31,8 +31,8 @@ A call that is turned down:
 
 The shared object is the file that the environment's CESSION_LIBRARY names, else libcession.so beside this module, else
 what the system's loader finds under that name. The calls are pure functions of what is lent to them and may run in any
-number of threads at once; a run takes about 23 kB of stack for up to 1,024 bytes of events and about 385 kB for the
-longest text, so that a thread of 512 kB has enough.
+number of threads at once; a run takes about 13 kB of stack for up to 1,024 bytes of events and about 132 kB for the
+longest text, so that a thread of 256 kB has enough.
 """
 
 from .calls import EVENTS_BYTES, TABLE_BYTES, open_year, read, run, run_into, write, write_into
