@@ -31,7 +31,7 @@ pub const CASES: [Named; 14] = [
 ];
 
 impl Case {
-    fn new(table: String, texts: impl IntoIterator<Item = String>) -> Case {
+    pub fn new(table: String, texts: impl IntoIterator<Item = String>) -> Case {
         let texts = texts.into_iter().map(String::into_bytes).collect();
         Case { sides: Sides::new(table.as_bytes()), texts }
     }
@@ -62,7 +62,7 @@ fn short_texts() -> impl Iterator<Item = String> {
 }
 
 // Eight treaties of both kinds.
-fn treaties(capacity: u64, limit: u64, retention: u64) -> String {
+pub fn treaties(capacity: u64, limit: u64, retention: u64) -> String {
     let mut table = String::new();
     for number in (1..=8).step_by(2) {
         let cede = 3_000 + 100 * number;
@@ -73,9 +73,9 @@ fn treaties(capacity: u64, limit: u64, retention: u64) -> String {
 }
 
 // So many layers one above the other.
-fn layers(tier: &str, count: u64, attachment: u64, limit: u64, deductible: u64, premium: u64) -> String {
+pub fn layers(tier: &str, count: usize, attachment: u64, limit: u64, deductible: u64, premium: u64) -> String {
     let mut table = String::new();
-    for i in 0..count {
+    for i in 0..count as u64 {
         let (attachment, rate, placed) = (attachment + i * limit, 5_000 + 1_000 * i, 9_999 - 300 * i);
         let (band, back) = (format!("(band {attachment} {limit})"), format!("(back 20 {rate} {premium})"));
         let _ = writeln!(table, "({tier} {band} (deduct {deductible}) {back} (placed {placed}))");
@@ -84,7 +84,7 @@ fn layers(tier: &str, count: u64, attachment: u64, limit: u64, deductible: u64, 
 }
 
 // Eight layers in each tier, so that a loss meets several of them.
-fn full_table() -> String {
+pub fn full_table() -> String {
     treaties(40_000_000, 900_000_000, 10_000_000)
         + &layers("risk", 8, 2_000_000, 5_000_000, 5_000_000, 7_500_001)
         + &layers("cat", 8, 50_000_000, 150_000_000, 150_000_000, 7_500_001)

@@ -1,14 +1,15 @@
 """Counts the instructions of one run of each case of bench/run_events.rs, by engine and yardstick, under callgrind.
 
-Called as `count.py PROGRAM FOLDER`: the program that bench/run built, and a folder for what callgrind writes. Only
-what runs inside the outermost function of a side is counted. The engine's memset is told apart: callgrind counts a
-long one byte by byte, so that its share of the instructions is not its share of the time.
+Then, for some of the cases, those of the engine where it is lent no byte more than the statement has. Called as
+`count.py PROGRAM FOLDER`: the program that bench/run built, and a folder for what callgrind writes. Only what runs
+inside the outermost function of a side is counted. The engine's memset is told apart: callgrind counts a long one byte
+by byte, so that its share of the instructions is not its share of the time.
 """
 
 import subprocess
 import sys
 
-OUTERMOST = {"engine": "cession_run", "yardstick": "run_events::yardstick::run"}
+OUTERMOST = {"engine": "cession_run", "exact": "cession_run", "yardstick": "run_events::yardstick::run"}
 
 
 def by_function(path):
@@ -42,17 +43,40 @@ def count(program, folder, case, side):
     return total, sum(number for name, number in counts.items() if "memset" in name)
 
 
-def main():
+def listed(program, kind):
+    """The lines that the program prints of its cases of a kind."""
+    return subprocess.run([program, kind], check=True, capture_output=True, text=True).stdout.splitlines()
+
+
+def print_sides(program, folder):
     """A line for each case."""
-    program, folder = sys.argv[1:]
-    names = subprocess.run([program, "names"], check=True, capture_output=True, text=True).stdout.split()
     print("| case | engine, instructions | of them memset | yardstick | ratio | ratio without memset |")
     print("|---|---:|---:|---:|---:|---:|")
-    for case in names:
+    for case in listed(program, "names"):
         ours, memset = count(program, folder, case, "engine")
         theirs, _ = count(program, folder, case, "yardstick")
         ratios = f"{ours / theirs:.2f} | {(ours - memset) / theirs:.2f}"
         print(f"| {case} | {ours} | {memset} | {theirs} | {ratios} |", flush=True)
 
 
-main()
+def print_exact(program, folder):
+    """A line for each case that is lent two buffers."""
+    print("the engine, lent exactly the statement's bytes and lent many more:")
+    print("| case | exact, instructions | wide | ratio | ratio without memset |")
+    print("|---|---:|---:|---:|---:|")
+    for case in listed(program, "exact"):
+        exact, of_exact = count(program, folder, case, "exact")
+        wide, of_wide = count(program, folder, case, "engine")
+        ratios = f"{exact / wide:.2f} | {(exact - of_exact) / (wide - of_wide):.2f}"
+        print(f"| {case} | {exact} | {wide} | {ratios} |", flush=True)
+
+
+def main():
+    """Both tables."""
+    program, folder = sys.argv[1:]
+    print_sides(program, folder)
+    print_exact(program, folder)
+
+
+if __name__ == "__main__":
+    main()

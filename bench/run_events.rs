@@ -1,7 +1,11 @@
 // Running events against the yardstick, a fast plain Rust program: the same bytes and standings, and how many times
-// the time. Then the stack that a run takes. `bash bench/run events` builds and runs it. Called as `run_events count
-// CASE SIDE` it does one run of one case by `engine` or `yardstick`, for bench/count.py to count its instructions; as
-// `run_events names` it names the cases that are one run. Nothing here is part of the gate.
+// the time. Then runs that are lent no byte too many, and the stack that a run takes. `bash bench/run events` builds
+// and runs it. Nothing here is part of the gate. For bench/count.py and bench/growth.py it is called as
+//
+//   run_events count CASE SIDE    one run of a case by engine, yardstick or exact, the engine lent no byte too many
+//   run_events names              the names of the cases that are one run
+//   run_events exact              the names of those that are lent two buffers
+//   run_events growth             the cases of bench/growth.rs
 #[path = "../tests/second/calculation.rs"]
 #[allow(dead_code)] // of the second calculation only the reading of tables is used here
 mod calculation;
@@ -10,6 +14,8 @@ mod cases;
 #[allow(dead_code)] // the tests call the rest
 mod draw;
 mod drawn_years;
+mod exact;
+mod growth;
 #[path = "../tests/shared/random.rs"]
 mod random;
 #[path = "../bindings/rust/src/raw.rs"]
@@ -31,7 +37,7 @@ use std::hint::black_box;
 use texts::EVENTS_BYTES;
 use timing::{median, time, ROUNDS};
 
-// A round takes the yardstick about so long, in nanoseconds.
+// In a round the second of two calls, the yardstick or the wide buffer, takes about so long, in nanoseconds.
 const ROUND_TIME: f64 = 1_000_000.0;
 
 impl Case {
@@ -61,17 +67,17 @@ impl Case {
         }
         [self.texts.iter().map(Vec::len).sum(), written]
     }
+}
 
-    // The median times of one turn by each side, in microseconds; the sides take turns.
-    fn times(&self, room: &mut [u8]) -> [f64; 2] {
-        let turns = (ROUND_TIME / time(1, || self.by_yardstick(room))).clamp(1.0, 10_000.0) as usize;
-        let mut times = [vec![], vec![]];
-        for _ in 0..ROUNDS {
-            times[0].push(time(turns, || self.by_engine(room)) / 1e3);
-            times[1].push(time(turns, || self.by_yardstick(room)) / 1e3);
-        }
-        times.map(median)
+// The median times of one turn of each call, in microseconds; the calls take turns.
+fn times(room: &mut [u8], first: impl Fn(&mut [u8]), second: impl Fn(&mut [u8])) -> [f64; 2] {
+    let turns = (ROUND_TIME / time(1, || second(room))).clamp(1.0, 10_000.0) as usize;
+    let mut times = [vec![], vec![]];
+    for _ in 0..ROUNDS {
+        times[0].push(time(turns, || first(room)) / 1e3);
+        times[1].push(time(turns, || second(room)) / 1e3);
     }
+    times.map(median)
 }
 
 // All cases are compared before the first is timed.
@@ -83,14 +89,14 @@ fn print_times() {
     println!("| case | events, bytes | statement, bytes | engine, us | yardstick, us | ratio |");
     println!("|---|---:|---:|---:|---:|---:|");
     for ((name, case), [read, written]) in cases.iter().zip(lengths) {
-        let [ours, theirs] = case.times(&mut room);
+        let [ours, theirs] = times(&mut room, |room| case.by_engine(room), |room| case.by_yardstick(room));
         println!("| {name} | {read} | {written} | {ours:.2} | {theirs:.2} | {:.2} |", ours / theirs);
     }
 }
 
 fn case_named(name: &str) -> Case {
-    let (_, draw) = CASES.iter().find(|(known, _)| *known == name).expect("the name of a case");
-    draw()
+    let drawn = CASES.iter().find(|(known, _)| *known == name).map(|(_, draw)| draw());
+    drawn.or_else(|| growth::case_named(name)).expect("the name of a case")
 }
 
 // The statement of events without losses does not fit into the buffer that the program lends.
@@ -117,14 +123,18 @@ fn main() {
     let arguments: Vec<String> = env::args().skip(1).collect();
     match arguments.iter().map(String::as_str).collect::<Vec<_>>()[..] {
         ["names"] => print_names(),
+        ["exact"] => exact::NAMES.iter().for_each(|name| println!("{name}")),
+        ["growth"] => growth::print_cases(),
         ["count", name, "engine"] => case_named(name).by_engine(&mut vec![0; ROOM]),
+        ["count", name, "exact"] => exact::run(&case_named(name)),
         ["count", name, "yardstick"] => case_named(name).by_yardstick(&mut vec![0; ROOM]),
         [] => {
             drawn_years::compare_years();
             print_times();
+            exact::print_times();
             print_refused();
             stack::measure();
         }
-        _ => panic!("call as run_events, run_events names or run_events count CASE SIDE"),
+        _ => panic!("call as run_events, run_events names, exact or growth, or run_events count CASE SIDE"),
     }
 }
