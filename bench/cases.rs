@@ -13,8 +13,9 @@ pub struct Case {
 // A case's name, and the case, drawn when it is asked for.
 type Named = (&'static str, fn() -> Case);
 
-pub const CASES: [Named; 14] = [
+pub const CASES: [Named; 15] = [
     ("full", || Case::new(full_table(), [full_text(MIXED)])),
+    ("two-rates", || Case::new(two_rates_table(), [full_text(MIXED)])),
     ("unreached", || Case::new(unreached_table(), [full_text(MIXED)])),
     ("open", || Case::new(open_table(), [full_text(MIXED)])),
     ("quota", || Case::new(quota_table(0, 0), [full_text(CEDED)])),
@@ -72,15 +73,28 @@ pub fn treaties(capacity: u64, limit: u64, retention: u64) -> String {
     table
 }
 
-// So many layers one above the other.
-pub fn layers(tier: &str, count: usize, attachment: u64, limit: u64, deductible: u64, premium: u64) -> String {
+// So many layers one above the other, each with a rate of its own to make its reinstatements of.
+fn stacked(
+    tier: &str,
+    count: usize,
+    attachment: u64,
+    limit: u64,
+    deductible: u64,
+    back: impl Fn(u64) -> String,
+) -> String {
     let mut table = String::new();
     for i in 0..count as u64 {
-        let (attachment, rate, placed) = (attachment + i * limit, 5_000 + 1_000 * i, 9_999 - 300 * i);
-        let (band, back) = (format!("(band {attachment} {limit})"), format!("(back 20 {rate} {premium})"));
-        let _ = writeln!(table, "({tier} {band} (deduct {deductible}) {back} (placed {placed}))");
+        let (attachment, placed, back) = (attachment + i * limit, 9_999 - 300 * i, back(5_000 + 1_000 * i));
+        let band = format!("(band {attachment} {limit})");
+        let _ = writeln!(table, "({tier} {band} (deduct {deductible}) (back {back}) (placed {placed}))");
     }
     table
+}
+
+// The same with twenty reinstatements at one rate.
+pub fn layers(tier: &str, count: usize, attachment: u64, limit: u64, deductible: u64, premium: u64) -> String {
+    let back = |rate: u64| format!("20 {premium}") + &format!(" {rate}").repeat(20);
+    stacked(tier, count, attachment, limit, deductible, back)
 }
 
 // Eight layers in each tier, so that a loss meets several of them.
@@ -88,6 +102,14 @@ pub fn full_table() -> String {
     treaties(40_000_000, 900_000_000, 10_000_000)
         + &layers("risk", 8, 2_000_000, 5_000_000, 5_000_000, 7_500_001)
         + &layers("cat", 8, 50_000_000, 150_000_000, 150_000_000, 7_500_001)
+}
+
+// The same bands, with two reinstatements at different rates.
+fn two_rates_table() -> String {
+    let back = |rate: u64| format!("2 7500001 {} {rate}", rate / 2);
+    treaties(40_000_000, 900_000_000, 10_000_000)
+        + &stacked("risk", 8, 2_000_000, 5_000_000, 5_000_000, back)
+        + &stacked("cat", 8, 50_000_000, 150_000_000, 150_000_000, back)
 }
 
 // Attachments above every loss, and above every event.
@@ -122,8 +144,8 @@ fn large_table() -> String {
 
 fn short_table() -> String {
     "(quota 1 (cede 4000) (capacity 40000000) (event 90000000))\n\
-    (risk (band 10000000 15000000) (deduct 0) (back 1 10000 750000) (placed 9000))\n\
-    (cat (band 20000000 30000000) (deduct 0) (back 1 10000 900000) (placed 8000))\n\
-    (cat (band 50000000 50000000) (deduct 0) (back 1 5000 600000) (placed 10000))\n"
+    (risk (band 10000000 15000000) (deduct 0) (back 1 750000 10000) (placed 9000))\n\
+    (cat (band 20000000 30000000) (deduct 0) (back 1 900000 10000) (placed 8000))\n\
+    (cat (band 50000000 50000000) (deduct 0) (back 1 600000 5000) (placed 10000))\n"
         .to_string()
 }

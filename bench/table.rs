@@ -50,15 +50,22 @@ impl Cursor<'_> {
     }
 
     fn terms(&mut self) -> Option<Terms> {
-        let terms = Terms {
+        let mut terms = Terms {
             attachment: self.item(" (band ")?,
             limit: self.item(" ")?,
             deductible: self.item(") (deduct ")?,
             reinstatements: self.item(") (back ")?,
-            rate: self.item(" ")?,
             premium: self.item(" ")?,
-            placed: self.item(") (placed ")?,
+            ..Terms::default()
         };
+        // Twenty rates are kept; a line ends, so that no K takes long.
+        for place in 0..terms.reinstatements {
+            let rate = self.item(" ")?;
+            if let Some(kept) = terms.rates.get_mut(place as usize) {
+                *kept = rate;
+            }
+        }
+        terms.placed = self.item(") (placed ")?;
         self.end("))")?;
         Some(terms)
     }
@@ -107,9 +114,9 @@ fn terms_in_range(l: &Terms) -> bool {
         && (1..=MONEY).contains(&l.limit)
         && l.deductible <= 100 * MONEY
         && l.reinstatements <= 20
-        && l.rate <= 20_000
         && l.premium <= MONEY / 10
         && l.placed <= 10_000
+        && l.rates.iter().all(|rate| *rate <= 20_000)
 }
 
 // Puts a layer into its tier, or gives the fault.
@@ -184,7 +191,9 @@ fn plain_valid(p: &Programme) -> bool {
 fn plain_tier(tier: &Layers) -> bool {
     let mut end = 0;
     let in_order = |l: &Terms| {
-        terms_in_range(l) && l.attachment >= std::mem::replace(&mut end, l.attachment + l.limit)
+        terms_in_range(l)
+            && l.attachment >= std::mem::replace(&mut end, l.attachment + l.limit)
+            && l.rates[l.reinstatements as usize..].iter().all(|rate| *rate == 0)
     };
     tier.count <= 8
         && tier.places[..tier.count].iter().all(in_order)
@@ -204,11 +213,15 @@ fn plain_text(p: &Programme) -> String {
     }
     for (name, tier) in [("risk", &p.risk), ("cat", &p.cat)] {
         for l in &tier.places[..tier.count] {
-            let _ = writeln!(
+            let _ = write!(
                 s,
-                "({} (band {} {}) (deduct {}) (back {} {} {}) (placed {}))",
-                name, l.attachment, l.limit, l.deductible, l.reinstatements, l.rate, l.premium, l.placed
+                "({} (band {} {}) (deduct {}) (back {} {}",
+                name, l.attachment, l.limit, l.deductible, l.reinstatements, l.premium
             );
+            for rate in &l.rates[..l.reinstatements as usize] {
+                let _ = write!(s, " {rate}");
+            }
+            let _ = writeln!(s, ") (placed {}))", l.placed);
         }
     }
     s
@@ -237,7 +250,7 @@ impl Random {
             l.limit = self.between(1, 500_000_000_000);
             l.deductible = self.between(0, 100 * MONEY);
             l.reinstatements = self.between(0, 20);
-            l.rate = self.between(0, 20_000);
+            l.rates[..l.reinstatements as usize].fill_with(|| self.between(0, 20_000));
             l.premium = self.between(0, MONEY / 10);
             l.placed = self.between(0, 10_000);
             end = l.attachment + l.limit;
@@ -269,9 +282,9 @@ impl Random {
     fn changed(&mut self, programme: &Programme) -> Programme {
         let mut p = *programme;
         let at = self.between(0, 7) as usize;
-        let number = [0, 1, 2, 9, 101, 10_001, MONEY, MONEY + 1, u64::MAX / 2][self.between(0, 8) as usize];
+        let number = [0, 1, 2, 9, 101, 10_001, 20_001, MONEY, MONEY + 1, u64::MAX / 2][self.between(0, 9) as usize];
         let layer = if self.next() % 2 == 0 { &mut p.risk.places[at] } else { &mut p.cat.places[at] };
-        match self.between(0, 9) {
+        match self.between(0, 11) {
             0 => p.treaties.places[at].kind = number,
             1 => p.treaties.places[at].number = number,
             2 => p.treaties.places[at].cede = number,
@@ -281,6 +294,8 @@ impl Random {
             6 => layer.placed = number,
             7 => p.treaties.count = self.between(0, 9) as usize,
             8 => p.risk.count = self.between(0, 9) as usize,
+            9 => layer.reinstatements = number,
+            10 => layer.rates[self.between(0, 19) as usize] = number,
             _ => p.cat.count = self.between(0, 9) as usize,
         }
         p

@@ -19,14 +19,14 @@
 // Threads. A call is a pure function of what is lent to it; the library keeps no state and shares none. Calls may run
 // at the same time as long as no thread writes to what another call has been lent.
 //
-// Stack. A run of up to 1,024 bytes of events takes about 13 kB of stack, one of up to 8,192 bytes about 26 kB and a
-// longer one about 132 kB; the other calls take less than 10 kB. These are measured figures: no theorem bounds the
+// Stack. A run of up to 1,024 bytes of events takes about 21 kB of stack, one of up to 8,192 bytes about 34 kB and a
+// longer one about 140 kB; the other calls take less than 20 kB. These are measured figures: no theorem bounds the
 // stack. A thread with 256 kB has enough for each call, one with 64 kB for runs of up to 1,024 bytes of events. A
 // stack needs a guard page below it, as the system gives its threads: without one an overrun goes unnoticed.
 //
-// What is proved. The library's calls give, for every input, the result, the standing and the buffer that document 01
-// defines. The declarations in this file are not part of that proof: a test (tests/boundary) compares their sizes and
-// offsets with those of the bindings, and every number of a full table and of a full standing with what the library
+// What is proved. The library's calls give, for every input, the result, the standing and the buffer that documents 01
+// and 02 define. The declarations in this file are not part of that proof: a test (tests/boundary) compares their sizes
+// and offsets with those of the bindings, and every number of a full table and of a full standing with what the library
 // reads into its place. They are for x86-64 with the System V calling convention, where size_t has 64 bits.
 #ifndef CESSION_H
 #define CESSION_H
@@ -36,6 +36,9 @@
 
 // The places for treaties, and for the layers of each tier.
 #define CESSION_PLACES 8
+
+// The places for the rates of a layer: it has at most as many reinstatements.
+#define CESSION_RATES 20
 
 // The longest table text that is read, and the longest events text, in bytes.
 #define CESSION_TABLE_BYTES 8192
@@ -53,7 +56,8 @@
 
 // The table text is over 8,192 bytes. Second number: 0.
 #define CESSION_TABLE_TOO_LONG 1
-// A line is none of the four forms of a table, or has no line feed. Second number: the line.
+// A line is none of the four forms of a table, or has no line feed; a layer's form has as many rates as
+// reinstatements. Second number: the line.
 #define CESSION_NOT_A_TABLE_FORM 2
 // A number of the table is outside its range. Second number: the line.
 #define CESSION_TABLE_NUMBER_OUT_OF_RANGE 3
@@ -62,7 +66,8 @@
 #define CESSION_TABLE_OUT_OF_ORDER 4
 // An attachment is below the end of the band before. Second number: the line.
 #define CESSION_BANDS_OVERLAP 5
-// No table text reads to the programme; anything but 0 in an unused place is enough. Second number: 0.
+// No table text reads to the programme; anything but 0 in an unused place or in a rate past the last reinstatement is
+// enough. Second number: 0.
 #define CESSION_NOT_A_PROGRAMME 6
 // The buffer is shorter than the text. Second number: the length needed, in bytes.
 #define CESSION_BUFFER_TOO_SHORT 7
@@ -103,9 +108,10 @@ typedef struct cession_terms {
     uint64_t limit;          // cents, 1 to 10^13
     uint64_t deductible;     // the yearly deductible, cents, 0 to 10^15
     uint64_t reinstatements; // how many, 0 to 20
-    uint64_t rate;           // the reinstatements' rate, bp, 0 to 20,000
     uint64_t premium;        // for 100% of the layer, cents, 0 to 10^12
     uint64_t placed;         // the placed share, bp, 0 to 10,000
+    uint64_t rates[CESSION_RATES]; // each reinstatement's rate, bp, 0 to 20,000, in the order of their use; 0 past the
+                                   // last reinstatement
 } cession_terms;
 
 // Treaties in the first places; every number of the places from count on is 0.

@@ -3,19 +3,31 @@
 use super::programme::{basis_points, part, MOST_LAYERS, WHOLE};
 use crate::calculation::table;
 
-/// A layer's terms. `back` is its limit times its reinstatements, `price` rate times premium, and `divisor` the limit
-/// in basis points.
+/// A layer's terms, with `divisor`, the limit in basis points, and what is charged with each number of limits used.
 #[derive(Default)]
 pub struct Layer {
     attachment: u64,
     limit: u64,
     deductible: u64,
     cap: u64,
-    back: u64,
-    price: u64,
+    reinstatements: u64,
+    premium: u64,
     divisor: u64,
     placed: u64,
+    slices: [Slice; MOST_SLICES],
 }
+
+/// The slice that begins where so many limits are used: its rate, what is recovered before it, and the recoveries of
+/// all slices before it, each times its rate. Past the last reinstatement the rate is 0.
+#[derive(Clone, Copy, Default)]
+struct Slice {
+    rate: u64,
+    recovered: u64,
+    rated: u64,
+}
+
+/// Those of twenty reinstatements, and what is past them.
+const MOST_SLICES: usize = 21;
 
 /// What a layer or a tier has recovered and charged.
 #[derive(Clone, Copy, Default)]
@@ -38,10 +50,11 @@ impl Layer {
             limit: layer.limit,
             deductible: layer.deductible,
             cap: layer.cap(),
-            back: layer.limit * layer.reinstatements,
-            price: layer.rate * layer.premium,
+            reinstatements: layer.rates.len() as u64,
+            premium: layer.premium,
             divisor: WHOLE * layer.limit,
             placed: layer.placed,
+            slices: slices(layer),
         }
     }
 
@@ -50,8 +63,10 @@ impl Layer {
         if used == 0 {
             return Paid::default();
         }
-        let reinstated = basis_points(used.min(self.back), self.placed);
-        Paid { recovered: basis_points(used, self.placed), premium: part(reinstated, self.price, self.divisor) }
+        let recovered = basis_points(used, self.placed);
+        let slice = &self.slices[(used / self.limit).min(self.reinstatements) as usize];
+        let rated = slice.rated + (recovered - slice.recovered) * slice.rate;
+        Paid { recovered, premium: part(rated, self.premium, self.divisor) }
     }
 
     fn figures(&self, account: &Account) -> Figures {
@@ -61,6 +76,17 @@ impl Layer {
             paid: account.paid,
         }
     }
+}
+
+fn slices(layer: &table::Layer) -> [Slice; MOST_SLICES] {
+    let mut slices = [Slice::default(); MOST_SLICES];
+    for (place, rate) in layer.rates.iter().enumerate() {
+        slices[place].rate = *rate;
+        let Slice { recovered: before, rated, .. } = slices[place];
+        let recovered = basis_points((place as u64 + 1) * layer.limit, layer.placed);
+        slices[place + 1] = Slice { rate: 0, recovered, rated: rated + (recovered - before) * rate };
+    }
+    slices
 }
 
 /// A layer in a run: the losses of the event under way are added to `sum`, and all else is of the events before it.

@@ -1,7 +1,7 @@
-"""Reads a table and a statement. A form is written as document 01 prints it: its capitals are numbers."""
+"""Reads a table and a statement. A form is written as documents 01 and 02 print it: its capitals are numbers."""
 
 import re
-from typing import List, NamedTuple
+from typing import List, NamedTuple, Tuple
 
 from drawing.wording import cents, counted, share
 
@@ -26,9 +26,8 @@ class Band(NamedTuple):
     attachment: int
     limit: int
     deductible: int
-    reinstatements: int
-    rate: int
     premium: int
+    rates: Tuple[int, ...]  # one for each reinstatement
     placed: int
 
     @property
@@ -69,14 +68,26 @@ class Picture(NamedTuple):
     total: Event
 
 
+NUMBER = "(?:0|[1-9][0-9]{0,19})"
+
+
+def expression(template):
+    return "".join("(%s)" % NUMBER if letter.isupper() else re.escape(letter) for letter in template)
+
+
 def form(template):
-    number = "(0|[1-9][0-9]{0,19})"
-    return re.compile("".join(number if letter.isupper() else re.escape(letter) for letter in template))
+    return re.compile(expression(template))
+
+
+def layer_form(tier):
+    """A layer's form, with its rates, however many, in one part."""
+    begin, end = "(%s (band A L) (deduct D) (back K P" % tier, ") (placed S))"
+    return re.compile("%s((?: %s)*)%s" % (expression(begin), NUMBER, expression(end)))
 
 
 QUOTA = form("(quota T (cede C) (capacity A) (event L))")
 SURPLUS = form("(surplus T (retain R) (lines N) (event L))")
-BANDS = {tier: form("(%s (band A L) (deduct D) (back K Q P) (placed S))" % tier) for tier in TIERS}
+BANDS = {tier: layer_form(tier) for tier in TIERS}
 FIGURES = " ".join("(%s %s)" % (name, name[0].upper()) for name in AMOUNTS)
 EVENT = form("(event D %s)" % FIGURES)
 TOTAL = form("(total %s)" % FIGURES)
@@ -122,10 +133,15 @@ def treaty_terms(line):
 
 
 def band_of(line):
+    """The band of a line that has as many rates as reinstatements."""
     for tier, pattern in BANDS.items():
-        terms = numbers(pattern, line)
-        if terms:
-            return Band(tier, *terms)
+        match = pattern.fullmatch(line)
+        if match:
+            *terms, listed, placed = match.groups()
+            attachment, limit, deductible, reinstatements, premium = map(int, terms)
+            rates = tuple(map(int, listed.split()))
+            if len(rates) == reinstatements:
+                return Band(tier, attachment, limit, deductible, premium, rates, int(placed))
     return None
 
 
@@ -203,7 +219,7 @@ def layer_in(rest, band, place):
     name = "%s %d" % (band.tier, place)
     found, *figures = rest.expect(YEAR[band.tier], "that of layer " + name)
     layer = Layer(band, place, *figures)
-    used = band.limit * (band.reinstatements + 1) - layer.cover
+    used = band.limit * (len(band.rates) + 1) - layer.cover
     fits = layer.deductible <= band.deductible and used >= 0 and (used == 0 or layer.deductible == 0)
     if found != place or not fits or layer.recovered != (used * band.placed + 5000) // 10000:
         raise Fault("the statement does not fit the table at layer " + name)

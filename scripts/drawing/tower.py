@@ -88,11 +88,20 @@ def layer_drawn(axis, layer, left):
         rectangle("placed", left, top, (RIGHT - left) * layer.band.placed / 10000, height)])
 
 
+def rates_in_words(rates):
+    """One rate where all are equal, two as they are used, and of more the lowest and the highest."""
+    if len(set(rates)) == 1:
+        return share(rates[0])
+    if len(rates) == 2:
+        return "%s and %s" % tuple(map(share, rates))
+    return "%s to %s" % (share(min(rates)), share(max(rates)))
+
+
 def layer_label(layer):
     band = layer.band
-    back = counted(band.reinstatements, "reinstatement")
-    if band.reinstatements:
-        back += " at %s of %s" % (share(band.rate), cents(band.premium))
+    back = counted(len(band.rates), "reinstatement")
+    if band.rates:
+        back += " at %s of %s" % (rates_in_words(band.rates), cents(band.premium))
     return [
         "%s %d: %s xs %s, %s placed" % (
             band.tier, layer.place, cents(band.limit), cents(band.attachment), share(band.placed)),

@@ -24,7 +24,7 @@ fn constant(refusal: Refusal) -> String {
 
 fn main() {
     print_struct!(Treaty { kind, number, cede, capacity, retention, lines, limit });
-    print_struct!(Terms { attachment, limit, deductible, reinstatements, rate, premium, placed });
+    print_struct!(Terms { attachment, limit, deductible, reinstatements, premium, placed, rates });
     print_struct!(Treaties { places, count });
     print_struct!(Layers { places, count });
     print_struct!(Programme { treaties, risk, cat });
@@ -33,6 +33,7 @@ fn main() {
     print_struct!(Reading { refusal, line, programme });
     print_struct!(Opening { refusal, number, standing });
     println!("constant PLACES {}", cession::PLACES);
+    println!("constant RATES {}", cession::RATES);
     println!("constant TABLE_BYTES {}", cession::TABLE_BYTES);
     println!("constant EVENTS_BYTES {}", cession::EVENTS_BYTES);
     println!("constant QUOTA_SHARE {}", cession::QUOTA_SHARE);

@@ -17,7 +17,7 @@ if len(structs) != header.count("struct") or len(constants) != header.count("#de
 def fields(name, body):
     """The fields of a struct: numbers without a sign, and structs of the header, alone or in places."""
     for line in filter(None, map(str.strip, body.splitlines())):
-        field = re.fullmatch(r"(?:uint64_t|size_t|cession_\w+) (\w+)(?:\[CESSION_PLACES\])?;", line)
+        field = re.fullmatch(r"(?:uint64_t|size_t|cession_\w+) (\w+)(?:\[CESSION_\w+\])?;", line)
         if not field:
             sys.exit(f"declared_in_header.py: {name} has a line that is not understood: {line}")
         yield field[1]

@@ -47,8 +47,11 @@ static void print_tier(const char *name, cession_layers tier) {
     for (size_t i = 0; i < tier.count; i++) {
         cession_terms l = tier.places[i];
         printf("(%s (band " NUMBER " " NUMBER ") (deduct " NUMBER ")", name, l.attachment, l.limit, l.deductible);
-        printf(" (back " NUMBER " " NUMBER " " NUMBER ")", l.reinstatements, l.rate, l.premium);
-        printf(" (placed " NUMBER "))\n", l.placed);
+        printf(" (back " NUMBER " " NUMBER, l.reinstatements, l.premium);
+        for (uint64_t rate = 0; rate < l.reinstatements; rate++) {
+            printf(" " NUMBER, l.rates[rate]);
+        }
+        printf(") (placed " NUMBER "))\n", l.placed);
     }
 }
 

@@ -18,7 +18,8 @@ def treaty_line(treaty):
 
 
 def layer_line(tier, layer):
-    back = f"(back {layer.reinstatements} {layer.rate} {layer.premium})"
+    rates = "".join(f" {rate}" for rate in layer.rates[: layer.reinstatements])
+    back = f"(back {layer.reinstatements} {layer.premium}{rates})"
     band = f"(band {layer.attachment} {layer.limit})"
     return f"({tier} {band} (deduct {layer.deductible}) {back} (placed {layer.placed}))\n"
 

@@ -20,8 +20,9 @@ fn treaty_line(treaty: &Treaty) -> String {
 }
 
 fn layer_line(tier: &str, terms: &Terms) -> String {
-    let Terms { attachment, limit, deductible, reinstatements, rate, premium, placed } = terms;
-    let back = format!("(back {reinstatements} {rate} {premium})");
+    let Terms { attachment, limit, deductible, reinstatements, premium, placed, rates } = terms;
+    let listed: String = rates[..*reinstatements as usize].iter().map(|rate| format!(" {rate}")).collect();
+    let back = format!("(back {reinstatements} {premium}{listed})");
     format!("({tier} (band {attachment} {limit}) (deduct {deductible}) {back} (placed {placed}))\n")
 }
 

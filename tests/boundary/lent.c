@@ -102,6 +102,15 @@ static void try_programmes(cession_programme sound, cession_standing begun) {
     broken.cat.places[7].attachment = 1;
     try_programme("cat layer in an unused place", broken, begun);
     broken = sound;
+    broken.cat.places[7].rates[19] = 1;
+    try_programme("rate in an unused place", broken, begun);
+    broken = sound;
+    broken.cat.places[0].rates[2] = 1;
+    try_programme("rate past the last reinstatement", broken, begun);
+    broken = sound;
+    broken.cat.places[0].rates[1] = 20001;
+    try_programme("rate over 20,000", broken, begun);
+    broken = sound;
     broken.treaties.count = 9;
     try_programme("count of treaties 9", broken, begun);
     broken = sound;

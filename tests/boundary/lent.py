@@ -91,15 +91,21 @@ def try_programmes():
         ("treaty in an unused place", lambda programme: programme.treaties.places[3], "limit", 1),
         ("risk layer in an unused place", lambda programme: programme.risk.places[0], "placed", 1),
         ("cat layer in an unused place", lambda programme: programme.cat.places[7], "attachment", 1),
+        ("rate in an unused place", lambda programme: programme.cat.places[7].rates, 19, 1),
+        ("rate past the last reinstatement", lambda programme: programme.cat.places[0].rates, 2, 1),
+        ("rate over 20,000", lambda programme: programme.cat.places[0].rates, 1, 20001),
         ("count of treaties 9", lambda programme: programme.treaties, "count", 9),
         ("count of risk layers 9", lambda programme: programme.risk, "count", 9),
         ("count of cat layers 9", lambda programme: programme.cat, "count", 9),
         ("treaty of kind 3", lambda programme: programme.treaties.places[1], "kind", 3),
         ("surplus with a share ceded", lambda programme: programme.treaties.places[0], "cede", 1),
     ]
-    for name, part, field, number in changes:
+    for name, part, place, number in changes:
         programme = PROGRAMME.to_raw()
-        setattr(part(programme), field, number)
+        if isinstance(place, str):
+            setattr(part(programme), place, number)
+        else:
+            part(programme)[place] = number
         try_broken(name, programme)
 
 

@@ -82,10 +82,13 @@ impl Lent {
 
     /// Each programme has one number that no table text reads to.
     fn programmes(&self) {
-        let broken: [(&str, fn(&mut raw::Programme)); 8] = [
+        let broken: [(&str, fn(&mut raw::Programme)); 11] = [
             ("treaty in an unused place", |programme| programme.treaties.places[3].limit = 1),
             ("risk layer in an unused place", |programme| programme.risk.places[0].placed = 1),
             ("cat layer in an unused place", |programme| programme.cat.places[7].attachment = 1),
+            ("rate in an unused place", |programme| programme.cat.places[7].rates[19] = 1),
+            ("rate past the last reinstatement", |programme| programme.cat.places[0].rates[2] = 1),
+            ("rate over 20,000", |programme| programme.cat.places[0].rates[1] = 20_001),
             ("count of treaties 9", |programme| programme.treaties.count = 9),
             ("count of risk layers 9", |programme| programme.risk.count = 9),
             ("count of cat layers 9", |programme| programme.cat.count = 9),

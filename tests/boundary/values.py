@@ -17,6 +17,9 @@ NO_CALL = [
     (ValueError, "risk[1].placed", Programme(risk=[SOUND, Terms(150, 7, placed=2**64 + 9000)])),
     (ValueError, "cat[0].premium", Programme(cat=[Terms(50, 100, premium=2**100)])),
     (TypeError, "cat[0].attachment", Programme(cat=[Terms(50.5, 100)])),
+    (ValueError, "cat[1].rates[1]", Programme(cat=[SOUND, Terms(150, 7, reinstatements=2, rates=[5000, 2**64])])),
+    (TypeError, "risk[0].rates[0]", Programme(risk=[Terms(50, 100, reinstatements=1, rates=["5000"])])),
+    (ValueError, "risk[0].rates has 21 places", Programme(risk=[Terms(50, 100, rates=[1] * 21)])),
     (TypeError, "treaties[0].number", Programme(treaties=[Treaty(1, "1")])),
     (ValueError, "treaties has 9 places", Programme(treaties=[Treaty(1, number) for number in range(1, 10)])),
     (ValueError, "risk has 9 places", Programme(risk=[SOUND] * 9)),
@@ -96,7 +99,7 @@ for kind, words, call in NO_LENDING:
 check(AssertionError, "cession_write is called", lambda: lend(Programme(cat=[SOUND])))
 raw.library = library
 # Any memory that can be written to is a buffer, counted in bytes; a needed length is no line.
-TEXT = b"(cat (band 50 100) (deduct 0) (back 0 0 0) (placed 9000))\n"
+TEXT = b"(cat (band 50 100) (deduct 0) (back 0 0) (placed 9000))\n"
 words = array.array("Q", [0] * 8)
 assert cession.write_into(Programme(cat=[SOUND]), words) == len(TEXT) and words.tobytes() == TEXT.ljust(64, b"\0")
 assert cession.refused(7, 5).line is None and cession.refused(10, 5).line == 5

@@ -14,7 +14,7 @@ GROSS = [10 * (37 * day % 201) for day in range(1, 201)]
 def write(folder):
     os.makedirs(folder, exist_ok=True)
     with open(os.path.join(folder, "programme.txt"), "w") as table:
-        table.write("(cat (band 5000 1000) (deduct 0) (back 0 0 0) (placed 8100))\n")
+        table.write("(cat (band 5000 1000) (deduct 0) (back 0 0) (placed 8100))\n")
     amounts = "(gross {0}) (ceded 0) (risk 0) (cat 0) (net {0}) (premium 0))\n"
     with open(os.path.join(folder, "statement.txt"), "w") as statement:
         for day, gross in enumerate(GROSS, 1):

@@ -6,15 +6,19 @@ import sys
 BIG = 10**13
 
 
-def layer(tier, attachment, limit, deductible=0, back="1 10000 70000", placed=9100):
+def layer(tier, attachment, limit, deductible=0, back="1 70000 10000", placed=9100):
     return "(%s (band %d %d) (deduct %d) (back %s) (placed %d))" % (tier, attachment, limit, deductible, back, placed)
+
+
+def reinstated(premium, rates):
+    return " ".join(map(str, [len(rates), premium] + list(rates)))
 
 
 def tower(tier, limits, gap):
     """Layers with these limits, each at the end of the one before and a gap further."""
     lines, attachment = [], gap
     for place, limit in enumerate(limits):
-        back = "%d 12550 %d" % (place, 8000 + limit % 997)
+        back = reinstated(8000 + limit % 997, [12550 - 725 * one for one in range(place)])
         lines.append(layer(tier, attachment, limit, limit // 3, back, 1237 * place))
         attachment += limit + gap
     return lines
@@ -36,10 +40,13 @@ def programmes():
     spread = [3 * 10**power for power in (1, 7, 3, 9, 4, 11, 2, 5)]
     yield "both-tiers", treaties()[::3] + tower("risk", spread, 11) + tower("cat", sorted(spread), 0), [
         "(event %d %s)" % (day, losses(1 + day % 3, (0, 1, 7), 37 ** (1 + day % 8))) for day in range(1, 201)]
-    yield "thin", [layer("cat", place * 10**12, 1 + place % 2, 10**15, "20 20000 1000000000000", 10000)
-                   for place in range(8)], ["(event 1 %s)" % losses(30, (0,), BIG - 1)] * 5
-    yield "largest", treaties() + [layer(tier, BIG, BIG, 10**15, "20 20000 1000000000000", 9999)
-                                   for tier in ("risk", "cat")], ["(event 366 %s)" % losses(40, range(9), BIG)] * 30
+    rising = reinstated(10**12, range(12345, 12365))
+    yield "thin", [layer("cat", place * 10**12, 1 + place % 2, 10**15, rising, 10000) for place in range(8)], [
+        "(event 1 %s)" % losses(30, (0,), BIG - 1)] * 5
+    equal = reinstated(10**12, [20000] * 20)
+    yield "largest", treaties() + [layer(tier, BIG, BIG, 10**15, back, 9999)
+                                   for tier, back in (("risk", equal), ("cat", rising))], [
+        "(event 366 %s)" % losses(40, range(9), BIG)] * 30
     # Sums of 17 digits in the row of the other events: gross, ceded and net.
     yield "sums", ["(quota 1 (cede 5300) (capacity 0) (event 0))"], [
         "(event %d %s)" % (min(day, 366), losses(6, (1,), BIG - day, 1)) for day in range(1, 380)]

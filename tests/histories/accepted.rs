@@ -30,11 +30,25 @@ fn equal(name: &str, found: u64, expected: u64) -> Result<(), String> {
     Err(format!("of the whole history, {name}: found {found}, expected {expected}"))
 }
 
-/// Document 01, Layers: used × s / 10,000 of a sum of losses; document 02, Q-8: to the nearest cent, halves up.
-fn recovered(layer: &Layer, sum: u128) -> u64 {
+/// What is used of a layer by a sum of losses.
+fn used(layer: &Layer, sum: u128) -> u128 {
     let (deductible, cap) = (u128::from(layer.deductible), u128::from(layer.cap()));
-    let used = sum.clamp(deductible, cap) - deductible;
-    ((used * u128::from(layer.placed) + 5_000) / 10_000) as u64
+    sum.clamp(deductible, cap) - deductible
+}
+
+/// Document 01, Layers: used × s / 10,000 of a sum of losses; document 02, Q-8: to the nearest cent, halves up.
+fn recovered(layer: &Layer, used: u128) -> u128 {
+    (used * u128::from(layer.placed) + 5_000) / 10_000
+}
+
+/// Document 02, Q-2: with equal rates the premium is the former one, B × q × p / (10,000 × l), where B is recovered
+/// with used cut at k limits. None with rates that differ.
+fn former_premium(layer: &Layer, used: u128) -> Option<u128> {
+    let rate = layer.rates.first().copied().unwrap_or(0);
+    let reinstated = used.min(u128::from(layer.limit) * layer.rates.len() as u128);
+    let product = recovered(layer, reinstated) * u128::from(rate) * u128::from(layer.premium);
+    let is_one_rate = layer.rates.iter().all(|other| *other == rate);
+    is_one_rate.then_some((product + 5_000 * u128::from(layer.limit)) / (10_000 * u128::from(layer.limit)))
 }
 
 impl Accepted {
@@ -57,7 +71,11 @@ impl Accepted {
         equal("net, ceded and recoveries", net + ceded + risk + cat, gross)?;
         let (risk_lines, cat_lines) = (tier(&self.last, "(layer risk"), tier(&self.last, "(layer cat"));
         for ((layer, sum), line) in ledger.layers().zip(risk_lines.iter().chain(&cat_lines)) {
-            equal("a layer's recoveries", line[3], recovered(layer, sum))?;
+            let used = used(layer, sum);
+            equal("a layer's recoveries", line[3], recovered(layer, used) as u64)?;
+            if let Some(premium) = former_premium(layer, used) {
+                equal("a layer's premium at one rate", line[4], premium as u64)?;
+            }
         }
         if self.had_another_programme {
             return Ok(());

@@ -10,12 +10,15 @@ const MOST_LOSSES: u64 = 64;
 /// No more whole limits than this are brought to a layer at once.
 const MOST_LIMITS: u64 = 30;
 
-/// The spent amounts at which the deductible is used up, the reinstatements are, and the cap is reached.
-pub fn bounds(layer: &Layer) -> [Option<u64>; 3] {
-    let Layer { limit, deductible, reinstatements, .. } = *layer;
-    let deducted = (deductible > 0).then_some(deductible);
-    let reinstated = (reinstatements > 0).then_some(deductible + reinstatements * limit);
-    [deducted, reinstated, Some(layer.cap())]
+/// What a spent amount comes to: the deductible, the end of a reinstatement before the last or of the last, the cap.
+pub const BOUNDS: [&str; 4] = ["deductible", "reinstatements before the last", "reinstatements", "cap"];
+
+/// The spent amounts at which a layer comes to one of these, with its place among them.
+pub fn bounds(layer: &Layer) -> Vec<(usize, u64)> {
+    let (deductible, count) = (layer.deductible, layer.reinstatements());
+    let deducted = (deductible > 0).then_some((0, deductible));
+    let reinstated = (1..=count).map(|place| (if place < count { 1 } else { 2 }, deductible + place * layer.limit));
+    deducted.into_iter().chain(reinstated).chain([(3, layer.cap())]).collect()
 }
 
 /// The subject amounts that bring a layer so much in all: as many whole limits as it takes, then the rest.
@@ -56,10 +59,13 @@ fn aims(ledger: &Ledger) -> Vec<Aim<'_>> {
     let cat = programme.cat.iter().zip(sums.cat).map(|(layer, sum)| (false, layer, sum));
     let mut aims = Vec::new();
     for (is_risk, layer, sum) in risk.chain(cat) {
-        for bound in bounds(layer).into_iter().flatten() {
-            let amount = u128::from(bound).saturating_sub(sum) as u64;
-            let is_near = amount / layer.limit <= MOST_LIMITS && layer.attachment + layer.limit <= LARGEST_AMOUNT;
-            if amount > 0 && is_near {
+        let left = |bound: u64| u128::from(bound).saturating_sub(sum) as u64;
+        let mut ahead = bounds(layer);
+        ahead.retain(|(_, bound)| left(*bound) > 0);
+        // Of several reinstatements the next one, so that they do not outnumber the other bounds.
+        ahead.dedup_by_key(|(place, _)| *place);
+        for amount in ahead.into_iter().map(|(_, bound)| left(bound)) {
+            if amount / layer.limit <= MOST_LIMITS && layer.attachment + layer.limit <= LARGEST_AMOUNT {
                 aims.push(Aim { is_risk, layer, amount });
             }
         }

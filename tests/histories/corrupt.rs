@@ -1,7 +1,7 @@
 //! Programmes and standings changed in one field. Most are refused; some are another programme or standing.
 
 use crate::calculation::table::{Layer, Programme};
-use crate::damage::{Range, AMOUNT, LAYER, SHARE};
+use crate::damage::{Range, AMOUNT, LAYER, RATE, SHARE};
 use crate::random::Random;
 use crate::raw;
 
@@ -13,9 +13,9 @@ fn treaty_fields(treaty: &mut raw::Treaty) -> [&mut u64; 7] {
     [kind, number, cede, capacity, retention, lines, limit]
 }
 
-fn layer_fields(terms: &mut raw::Terms) -> [&mut u64; 7] {
-    let raw::Terms { attachment, limit, deductible, reinstatements, rate, premium, placed } = terms;
-    [attachment, limit, deductible, reinstatements, rate, premium, placed]
+fn layer_fields(terms: &mut raw::Terms) -> [&mut u64; 6] {
+    let raw::Terms { attachment, limit, deductible, reinstatements, premium, placed, rates: _ } = terms;
+    [attachment, limit, deductible, reinstatements, premium, placed]
 }
 
 /// One of the values, other than the one that a field has.
@@ -67,12 +67,25 @@ fn at_neighbours(places: &[raw::Terms; 8], place: usize, field: usize) -> Vec<u6
     }
 }
 
+/// Another rate, of a reinstatement or past the last: most often of the last one or of the first place past it.
+fn rate(random: &mut Random, terms: &mut raw::Terms) {
+    let last = terms.rates.len() - 1;
+    let count = usize::try_from(terms.reinstatements).map_or(last, |count| count.min(last));
+    let any = random.place(terms.rates.len());
+    let rate = &mut terms.rates[random.pick(&[count.saturating_sub(1), count, last, any])];
+    *rate = in_field(random, *rate, RATE, &[]);
+}
+
 fn tier(random: &mut Random, tier: &mut raw::Layers) {
     if random.one_in(8) {
         tier.count = count(random, tier.count);
         return;
     }
-    let (place, field) = (place(random, tier.count), random.place(LAYER.len()));
+    let place = place(random, tier.count);
+    if random.one_in(4) {
+        return rate(random, &mut tier.places[place]);
+    }
+    let field = random.place(LAYER.len());
     let given = at_neighbours(&tier.places, place, field);
     let value = in_field(random, *layer_fields(&mut tier.places[place])[field], LAYER[field], &given);
     *layer_fields(&mut tier.places[place])[field] = value;

@@ -113,6 +113,7 @@ impl History {
             tally.limits.count(&self.ledger.programme, &run.events);
             let statement = found.room.text(answer.number);
             tally.roundings.count(&self.ledger.programme, &run.events, statement);
+            tally.rates.count(&self.ledger.programme, statement);
             self.take_in(&run, &lent, &found, tally)?;
         }
         Ok(())

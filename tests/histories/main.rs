@@ -24,6 +24,8 @@ mod limits;
 mod random;
 #[path = "../../bindings/rust/src/raw.rs"]
 mod raw;
+#[path = "../shared/rates.rs"]
+mod rates;
 mod records;
 #[path = "../shared/roundings.rs"]
 mod roundings;

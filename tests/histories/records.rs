@@ -20,15 +20,17 @@ fn raw_treaty(treaty: &Treaty) -> raw::Treaty {
 }
 
 fn raw_terms(layer: &Layer) -> raw::Terms {
-    let Layer { attachment, limit, deductible, reinstatements, rate, premium, placed } = *layer;
-    raw::Terms { attachment, limit, deductible, reinstatements, rate, premium, placed }
+    let Layer { attachment, limit, deductible, premium, placed, .. } = *layer;
+    let reinstatements = layer.reinstatements();
+    let rates = places(&layer.rates, |rate| *rate);
+    raw::Terms { attachment, limit, deductible, reinstatements, premium, placed, rates }
 }
 
 /// The first places filled, the others left at 0.
-fn places<T, R: Copy + Default>(contracts: &[T], record: fn(&T) -> R) -> [R; 8] {
-    let mut places = [R::default(); 8];
-    for (place, contract) in places.iter_mut().zip(contracts) {
-        *place = record(contract);
+fn places<T, R: Copy + Default, const N: usize>(items: &[T], record: fn(&T) -> R) -> [R; N] {
+    let mut places = [R::default(); N];
+    for (place, item) in places.iter_mut().zip(items) {
+        *place = record(item);
     }
     places
 }
@@ -51,17 +53,19 @@ fn treaty(record: &raw::Treaty) -> Option<Treaty> {
     Some(Treaty { number: record.number, terms, event_limit: record.limit })
 }
 
-fn layer(record: &raw::Terms) -> Layer {
-    let raw::Terms { attachment, limit, deductible, reinstatements, rate, premium, placed } = *record;
-    Layer { attachment, limit, deductible, reinstatements, rate, premium, placed }
+fn layer(record: &raw::Terms) -> Option<Layer> {
+    let raw::Terms { attachment, limit, deductible, reinstatements, premium, placed, rates } = *record;
+    let rates = rates.get(..usize::try_from(reinstatements).ok()?)?.to_vec();
+    Some(Layer { attachment, limit, deductible, premium, rates, placed })
 }
 
 fn layers(tier: &raw::Layers) -> Option<Vec<Layer>> {
-    Some(tier.places.get(..tier.count)?.iter().map(layer).collect())
+    tier.places.get(..tier.count)?.iter().map(layer).collect()
 }
 
 /// The programme whose record this is; none if the record has a number that no programme's record has: a count
-/// above 8, a kind that is none, anything but 0 in an unused place or in a term of the other kind.
+/// above 8, a kind that is none, more reinstatements than rates, anything but 0 in an unused place, in a term of the
+/// other kind or in a rate past the last reinstatement.
 pub fn programme(record: &raw::Programme) -> Option<Programme> {
     let treaties = record.treaties.places.get(..record.treaties.count)?.iter().map(treaty).collect::<Option<_>>()?;
     let programme = Programme { treaties, risk: layers(&record.risk)?, cat: layers(&record.cat)? };

@@ -1,10 +1,12 @@
 //! What the histories compared so far have reached.
 
-use crate::aim::bounds;
+use crate::aim::{bounds, BOUNDS};
+use crate::draw::LARGEST_RATE;
 use crate::feeds::Feeds;
 use crate::ledger::Ledger;
 use crate::limits::Limits;
 use crate::raw::{Answer, Programme};
+use crate::rates::Rates;
 use crate::roundings::Roundings;
 use crate::runs::Run;
 use crate::totals::has_all;
@@ -17,6 +19,9 @@ const REFUSALS: [u64; 9] = [6, 7, 8, 9, 10, 11, 12, 13, 14];
 /// short.
 const LEAST_RUNS: usize = 5;
 
+/// For a hundred histories, how many runs are refused for a rate, by each fault.
+const LEAST_MISRATED: usize = 1;
+
 /// Of a hundred histories, how many have cessions, recoveries of both tiers and premium.
 const LEAST_FULL: usize = 30;
 
@@ -24,7 +29,7 @@ const LEAST_FULL: usize = 30;
 const LEAST_REACHED: usize = 20;
 
 /// Of a hundred histories, how many have a layer that a run brings to each bound to the cent, or one cent beside it.
-const LEAST_MET: usize = 33;
+const LEAST_MET: usize = 30;
 
 /// For a hundred histories, how often an event limit is met in each way.
 const LEAST_LIMITS: usize = 40;
@@ -35,10 +40,12 @@ const LEAST_ROUNDINGS: usize = 1;
 /// For a hundred histories, how many cuts are compared.
 const LEAST_CUTS: usize = 200;
 
-const BOUNDS: [&str; 3] = ["deductible", "reinstatements", "cap"];
+/// A rate that makes a programme one that no text reads to: too large, past the last reinstatement, or in an unused
+/// place.
+const MISRATED: [&str; 3] = ["too large", "past the last", "in an unused place"];
 
 /// How many histories, for each bound.
-type ByBound = [usize; 3];
+type ByBound = [usize; BOUNDS.len()];
 
 #[derive(Default)]
 pub struct Tally {
@@ -56,10 +63,29 @@ pub struct Tally {
     met: ByBound,
     pub limits: Limits,
     pub roundings: Roundings,
+    pub rates: Rates,
+    /// Runs refused with 6 for a rate, by where it stands.
+    misrated: [usize; MISRATED.len()],
     feeds: Feeds,
     /// Of the history under way.
-    reaches: [bool; 3],
-    meets: [bool; 3],
+    reaches: [bool; BOUNDS.len()],
+    meets: [bool; BOUNDS.len()],
+}
+
+/// Which of these the rates of a programme have, if one.
+fn misrated(programme: &Programme) -> Option<usize> {
+    let tiers = [&programme.risk, &programme.cat];
+    let mut layers = tiers.iter().flat_map(|tier| tier.places.iter().enumerate().map(|(at, l)| (at < tier.count, l)));
+    layers.find_map(|(is_used, terms)| {
+        let count = usize::try_from(terms.reinstatements).ok().filter(|count| *count <= terms.rates.len())?;
+        let (used, past) = terms.rates.split_at(count);
+        let is_past = past.iter().any(|rate| *rate > 0);
+        match is_used {
+            false => (is_past || used.iter().any(|rate| *rate > 0)).then_some(2),
+            true if is_past => Some(1),
+            true => used.iter().any(|rate| *rate > LARGEST_RATE).then_some(0),
+        }
+    })
 }
 
 impl Tally {
@@ -72,6 +98,9 @@ impl Tally {
             self.fitting += usize::from(answer.number == length);
         } else {
             *self.refused.entry(answer.refusal).or_default() += 1;
+            if let Some(place) = misrated(&run.programme).filter(|_| answer.refusal == 6) {
+                self.misrated[place] += 1;
+            }
             self.one_short += usize::from(answer.refusal == 7 && answer.number == length + 1);
         }
         match answer.refusal {
@@ -84,8 +113,8 @@ impl Tally {
     /// The bounds that layers have come to in an accepted run.
     pub fn count_bounds(&mut self, before: &Ledger, after: &Ledger) {
         for ((_, before), (layer, after)) in before.layers().zip(after.layers()) {
-            for (place, bound) in bounds(layer).into_iter().enumerate() {
-                let Some(bound) = bound.map(u128::from) else { continue };
+            for (place, bound) in bounds(layer) {
+                let bound = u128::from(bound);
                 self.reaches[place] |= before > 0 && before < bound && bound <= after;
                 self.meets[place] |= before + 1 < bound && after.abs_diff(bound) <= 1;
             }
@@ -95,7 +124,7 @@ impl Tally {
     pub fn count_history(&mut self, totals: &[u64]) {
         self.histories += 1;
         self.full += usize::from(has_all(totals));
-        for place in 0..3 {
+        for place in 0..BOUNDS.len() {
             self.reached[place] += usize::from(self.reaches[place]);
             self.met[place] += usize::from(self.meets[place]);
         }
@@ -119,6 +148,9 @@ impl Tally {
         println!("{}", counts.join("; "));
         println!("histories: {}", self.limits.shown());
         println!("histories: {}", self.roundings.shown());
+        println!("histories: {}", self.rates.shown());
+        let counts = MISRATED.iter().zip(self.misrated).map(|(name, count)| format!("{name} {count}"));
+        println!("histories: rates refused with 6: {}", counts.collect::<Vec<String>>().join(", "));
         println!("histories: {}", self.feeds.shown());
     }
 
@@ -134,6 +166,9 @@ impl Tally {
         counts.extend(limits.map(|(name, count)| (format!("event limits met: {name}"), count, LEAST_LIMITS)));
         let roundings = self.roundings.counts();
         counts.extend(roundings.map(|(name, count)| (format!("rounded: {name}"), count, LEAST_ROUNDINGS)));
+        for (name, count) in MISRATED.iter().zip(self.misrated) {
+            counts.push((format!("runs refused with 6 for a rate {name}"), count, LEAST_MISRATED));
+        }
         for refusal in REFUSALS {
             let count = self.refused.get(&refusal).copied().unwrap_or(0);
             counts.push((format!("runs refused with {refusal}"), count, LEAST_RUNS));
@@ -144,6 +179,7 @@ impl Tally {
         }
         let too_few = counts.into_iter().filter(|(_, count, least)| count * 100 < self.histories * least);
         let too_few = too_few.map(|(name, count, least)| format!("{name}: {count}, not {least} for a hundred histories"));
+        let too_few = too_few.chain(self.rates.unmet().map(|name| format!("reinstated: none met: {name}")));
         too_few.chain(self.feeds.unmet().map(|name| format!("line feeds: none met: {name}"))).collect()
     }
 }

@@ -1,8 +1,8 @@
-//! The second calculation of document 01, with event limits and rounding as of document 02, Q-3 and Q-8, in ordinary
-//! Rust and without the engine's code. Each layer keeps the sum of all losses brought to it, never cut off, and every
-//! figure is computed from that sum cut off at the cap. So with treaties: one keeps the sum of what an event's losses
-//! offer it, not cut to the event limit, and of a loss as much is ceded as the cut sum grows by. Net is added up from
-//! what the insurer keeps, never taken as gross less recoveries.
+//! The second calculation of document 01, with rates, event limits and rounding as of document 02, Q-2, Q-3 and Q-8,
+//! in ordinary Rust and without the engine's code. Each layer keeps the sum of all losses brought to it, never cut
+//! off, and every figure is computed from that sum cut off at the cap. So with treaties: one keeps the sum of what an
+//! event's losses offer it, not cut to the event limit, and of a loss as much is ceded as the cut sum grows by. Net is
+//! added up from what the insurer keeps, never taken as gross less recoveries.
 
 #[path = "events.rs"]
 pub mod events;

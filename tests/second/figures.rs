@@ -1,5 +1,5 @@
-//! The checked figures of document 01, C4 and L2 as document 02 has them, typed from the papers, and figures by hand,
-//! put to the second calculation. Says what is wrong and ends with status 1 when a figure differs.
+//! The checked figures of document 01, with C4, L2 and the tables as document 02 has them, typed from the papers, and
+//! figures by hand, put to the second calculation. Says what is wrong and ends with status 1 when a figure differs.
 
 mod calculation;
 mod printed;
@@ -9,9 +9,9 @@ use calculation::{open, read_table, run, take_over, Programme, Refusal, Spent, S
 use printed::printed;
 
 const SIDNEY_TABLE: &str = "\
-(cat (band 25000000 75000000) (deduct 75000000) (back 0 0 0) (placed 10000))
-(cat (band 100000000 150000000) (deduct 0) (back 1 5000 75000000) (placed 8000))
-(cat (band 250000000 150000000) (deduct 0) (back 1 10000 30000000) (placed 7200))
+(cat (band 25000000 75000000) (deduct 75000000) (back 0 0) (placed 10000))
+(cat (band 100000000 150000000) (deduct 0) (back 1 75000000 5000) (placed 8000))
+(cat (band 250000000 150000000) (deduct 0) (back 1 30000000 10000) (placed 7200))
 ";
 
 const SIDNEY_STATEMENT: &str = "\
@@ -25,9 +25,9 @@ const SIDNEY_STATEMENT: &str = "\
 /// The cession of 101 is 50.5, so the layers' subject is 250, and they recover 15.5, 10.9989 and 26.6437 of it.
 const UPWARD_TABLE: &str = "\
 (quota 7 (cede 5000) (capacity 0) (event 0))
-(cat (band 100 31) (deduct 0) (back 1 5000 10) (placed 5000))
-(cat (band 150 33) (deduct 0) (back 1 10000 50) (placed 3333))
-(cat (band 200 37) (deduct 0) (back 2 7500 37) (placed 7201))
+(cat (band 100 31) (deduct 0) (back 1 10 5000) (placed 5000))
+(cat (band 150 33) (deduct 0) (back 1 50 10000) (placed 3333))
+(cat (band 200 37) (deduct 0) (back 2 37 7500 7500) (placed 7201))
 ";
 
 const UPWARD_EVENT: &str = "(event 77 (loss 7 1 101) (loss 0 1 200))\n";
@@ -118,11 +118,11 @@ fn treaties(checks: &mut Checks) {
 }
 
 fn layers(checks: &mut Checks) {
-    let attached = "(risk (band 50 100) (deduct 0) (back 0 0 0) (placed 10000))\n";
+    let attached = "(risk (band 50 100) (deduct 0) (back 0 0) (placed 10000))\n";
     checks.equal("L1", from_layer(attached, &[50, 51], "risk"), vec![0, 1]);
-    let half = "(risk (band 0 100) (deduct 0) (back 0 0 0) (placed 5000))\n";
+    let half = "(risk (band 0 100) (deduct 0) (back 0 0) (placed 5000))\n";
     checks.equal("L2", from_layer(half, &[1, 1], "risk"), vec![1, 0]);
-    let reinstated = "(risk (band 0 100) (deduct 0) (back 1 10000 1000) (placed 10000))\n";
+    let reinstated = "(risk (band 0 100) (deduct 0) (back 1 1000 10000) (placed 10000))\n";
     checks.equal("L3", from_layer(reinstated, &[100, 50, 50], "premium"), vec![1_000, 0, 0]);
     let deducted = "(risk (band 500000 500000) (deduct 1000000) (back 1 0 0) (placed 10000))\n";
     let losses = [750_000, 2_000_000, 1_000_000, 250_000, 1_000_000];
@@ -144,19 +144,53 @@ fn nearest_cents(checks: &mut Checks) {
     let alone = |table: &str, subjects: &[u64], name: &str| -> Vec<u64> {
         subjects.iter().flat_map(|subject| from_layer(table, &[*subject], name)).collect()
     };
-    let placed = "(risk (band 0 6000) (deduct 0) (back 0 0 0) (placed 3333))\n";
+    let placed = "(risk (band 0 6000) (deduct 0) (back 0 0) (placed 3333))\n";
     checks.equal("placed halves", alone(placed, &[5_003, 5_000, 4_997], "risk"), vec![1_667, 1_667, 1_666]);
     checks.equal("five losses of 1", from_layer(placed, &[1; 5], "risk"), vec![0, 1, 0, 0, 1]);
-    let reinstated = "(risk (band 0 14) (deduct 0) (back 1 5000 18) (placed 10000))\n";
+    let reinstated = "(risk (band 0 14) (deduct 0) (back 1 18 5000) (placed 10000))\n";
     checks.equal("premium halves", alone(reinstated, &[10, 7, 4], "premium"), vec![6, 5, 3]);
-    let of_share = |placed: u64| format!("(risk (band 0 7) (deduct 0) (back 1 5000 100) (placed {placed}))\n");
+    let of_share = |placed: u64| format!("(risk (band 0 7) (deduct 0) (back 1 100 5000) (placed {placed}))\n");
     checks.equal("premium of a share", alone(&of_share(3_333), &[5, 4], "premium"), vec![14, 7]);
     checks.equal("premium of half a cent", alone(&of_share(5_000), &[3, 5], "premium"), vec![14, 21]);
     checks.equal("all rounded up", program(UPWARD_TABLE, UPWARD_EVENT).as_str(), UPWARD_STATEMENT);
 }
 
+/// The premium of a layer of limit 100 in years of their own, each with one of the used amounts.
+fn premiums(back: &str, placed: u64, used: &[u64]) -> Vec<u64> {
+    let table = format!("(risk (band 0 100) (deduct 0) (back {back}) (placed {placed}))\n");
+    let year = |used: &u64| {
+        let subjects = [vec![100; (*used / 100) as usize], vec![used % 100]].concat();
+        from_layer(&table, &subjects, "premium").iter().sum()
+    };
+    used.iter().map(year).collect()
+}
+
+/// Each reinstatement at its own rate, worked out by hand.
+fn rates(checks: &mut Checks) {
+    let used = [50, 100, 150, 200, 300];
+    let whole = |back: &str| premiums(back, 10_000, &used);
+    checks.equal("the first free", whole("2 1000 0 10000"), vec![0, 0, 500, 1_000, 1_000]);
+    checks.equal("the second free", whole("2 1000 10000 0"), vec![500, 1_000, 1_000, 1_000, 1_000]);
+    checks.equal("both at one rate", whole("2 1000 5000 5000"), vec![250, 500, 750, 1_000, 1_000]);
+    checks.equal("no reinstatement", whole("0 1000"), vec![0; 5]);
+    // Recovered are 33, 33, 34, 67, 100, 100 and 100: the slices are 33, then up to 34, then 33.
+    let used = [99, 100, 101, 200, 299, 300, 301];
+    checks.equal("by slices", premiums("3 999 1 20000 7", 3_333, &used), vec![0, 0, 20, 679, 680, 680, 680]);
+    // Spent are 100, 131 and 230, used 70, 101 and 200. Recovered are 35, 51 and 100, by slices 35; 50 and 1; 50 and
+    // 50. The year's premiums are 87.41, 132.37 and 499.5.
+    let deducted = "(risk (band 0 100) (deduct 30) (back 2 999 2500 7500) (placed 5000))\n";
+    checks.equal("above a deductible", from_layer(deducted, &[100, 31, 99], "premium"), vec![87, 45, 368]);
+    // A whole slice at one bp is a cent of a premium of 10,000: 1, 1 + 2, 1 + 2 + 3, up to all twenty.
+    let rising: Vec<u64> = (1..=20).collect();
+    let listed: String = rising.iter().map(|rate| format!(" {rate}")).collect();
+    let ends: Vec<u64> = rising.iter().map(|place| 100 * place).collect();
+    let sums: Vec<u64> = rising.iter().map(|place| place * (place + 1) / 2).collect();
+    checks.equal("twenty rates", premiums(&format!("20 10000{listed}"), 10_000, &ends), sums);
+    checks.equal("past twenty", premiums(&format!("20 10000{listed}"), 10_000, &[2_050, 2_100, 2_101]), vec![210; 3]);
+}
+
 fn band(attachment: u64, limit: u64) -> String {
-    format!("(risk (band {attachment} {limit}) (deduct 0) (back 0 0 0) (placed 10000))\n")
+    format!("(risk (band {attachment} {limit}) (deduct 0) (back 0 0) (placed 10000))\n")
 }
 
 fn refused_tables(checks: &mut Checks) {
@@ -175,6 +209,39 @@ fn refused_tables(checks: &mut Checks) {
     checks.refused("ninth layer", &nine, "", 4, 9);
     checks.refused("ninth layer below the eighth", &(nine[..nine.len() / 9 * 8].to_string() + &band(0, 1)), "", 4, 9);
     checks.refused("no line feed", "(quota 1 (cede 0) (capacity 0) (event 0))", "", 2, 1);
+}
+
+/// A table of one layer with such reinstatements.
+fn with_back(back: &str) -> String {
+    format!("(cat (band 30 70) (deduct 9) (back {back}) (placed 7201))\n")
+}
+
+/// So many rates, each after a space.
+fn so_many(count: usize, rate: u64) -> String {
+    format!(" {rate}").repeat(count)
+}
+
+/// Rates that are not as many as the line says are no form; the ranges come after that.
+fn refused_rates(checks: &mut Checks) {
+    let accepted = ["0 0", "0 1000000000000", "1 5000 10000", "1 5000 20000", "2 5000 0 1", "3 0 20000 0 7"];
+    let twenty = format!("20 5000{}", so_many(20, 20_000));
+    for back in accepted.into_iter().chain([twenty.as_str()]) {
+        let table = with_back(back);
+        let written = read_table(table.as_bytes()).map(|programme| write_table(&programme));
+        checks.equal(back, written, Ok(table.into_bytes()));
+    }
+    let no_form = ["0", "0 ", "0 0 ", "0 0 0", "1 5000", "1 5000 ", "1 5000  7", "1 5000 7 7", "1 5000 07", "3 1 2 3"];
+    let without = ["21 5000".to_string() + &so_many(20, 7), "9999999999999999 5000 7".to_string()];
+    let seventeen = format!("1 5000 {}", "9".repeat(17));
+    for back in no_form.into_iter().chain(without.iter().map(String::as_str)).chain([seventeen.as_str()]) {
+        checks.refused(back, &with_back(back), "", 2, 1);
+    }
+    let with_all = "21 5000".to_string() + &so_many(21, 7);
+    let sixteen = format!("1 5000 {}", "9".repeat(16));
+    let outside = ["1 5000 20001", "1 5000 75000000", "2 5000 7 20001", "1 1000000000001 7", &with_all, &sixteen];
+    for back in outside {
+        checks.refused(back, &with_back(back), "", 3, 1);
+    }
 }
 
 fn refused_events(checks: &mut Checks) {
@@ -252,7 +319,9 @@ fn main() {
     treaties(&mut checks);
     layers(&mut checks);
     nearest_cents(&mut checks);
+    rates(&mut checks);
     refused_tables(&mut checks);
+    refused_rates(&mut checks);
     refused_events(&mut checks);
     refused_records(&mut checks);
     histories(&mut checks);

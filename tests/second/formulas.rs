@@ -36,8 +36,12 @@ impl Treaty {
 }
 
 impl Layer {
+    pub fn reinstatements(&self) -> u64 {
+        self.rates.len() as u64
+    }
+
     pub fn cap(&self) -> u64 {
-        self.deductible + self.limit * (self.reinstatements + 1)
+        self.deductible + self.limit * (self.reinstatements() + 1)
     }
 
     /// The sum of losses, cut off at the cap.
@@ -66,10 +70,20 @@ impl Layer {
         eaten + u128::from(not_placed) + past_cap
     }
 
+    /// What is recovered with used cut at so many limits.
+    fn recovered_in(&self, used: u64, limits: u64) -> u64 {
+        self.at_placed_share(used.min(limits * self.limit)).nearest()
+    }
+
+    /// The slices of used, one for each reinstatement, each with its rate.
+    pub fn slices(&self, used: u64) -> impl Iterator<Item = (u64, u64)> + '_ {
+        let slice = move |place: u64| self.recovered_in(used, place) - self.recovered_in(used, place - 1);
+        self.rates.iter().zip(1..).map(move |(rate, place)| (slice(place), *rate))
+    }
+
     pub fn exact_premium(&self, used: u64) -> Exact {
-        let reinstated = used.min(self.reinstatements * self.limit);
-        let price = u128::from(self.rate) * u128::from(self.premium);
-        Exact::new(self.at_placed_share(reinstated).nearest(), price, WHOLE * self.limit)
+        let rated = self.slices(used).map(|(slice, rate)| slice * rate).sum();
+        Exact::new(rated, u128::from(self.premium), WHOLE * self.limit)
     }
 
     fn reinstatement_premium(&self, sum: u128) -> u64 {

@@ -1,6 +1,6 @@
 //! The treaty table: its contracts, reading and writing it.
 
-use super::words::numbers;
+use super::words::{number, numbers, word};
 use super::Refusal;
 
 pub const TABLE_BYTES: usize = 8_192;
@@ -8,11 +8,14 @@ pub const MOST_LAYERS: usize = 8;
 pub const MOST_TREATIES: u64 = 8;
 pub const LARGEST_AMOUNT: u64 = 10_000_000_000_000;
 pub const WHOLE: u64 = 10_000;
+pub const MOST_RATES: usize = 20;
+pub const LARGEST_RATE: u64 = 20_000;
 
 const QUOTA: &str = "(quota # (cede #) (capacity #) (event #))";
 const SURPLUS: &str = "(surplus # (retain #) (lines #) (event #))";
-const RISK: &str = "(risk (band # #) (deduct #) (back # # #) (placed #))";
-const CAT: &str = "(cat (band # #) (deduct #) (back # # #) (placed #))";
+/// A layer's line after its tier, up to its rates, and after them.
+const LAYER: &str = " (band # #) (deduct #) (back # #";
+const PLACED: &str = ") (placed #))";
 
 #[derive(Clone, Debug, PartialEq, Eq)]
 pub enum Terms {
@@ -32,9 +35,9 @@ pub struct Layer {
     pub attachment: u64,
     pub limit: u64,
     pub deductible: u64,
-    pub reinstatements: u64,
-    pub rate: u64,
     pub premium: u64,
+    /// One for each reinstatement, in the order in which they are used.
+    pub rates: Vec<u64>,
     pub placed: u64,
 }
 
@@ -51,24 +54,43 @@ enum Contract {
     Cat(Layer),
 }
 
-fn layer_of(terms: [u64; 7]) -> Layer {
-    let [attachment, limit, deductible, reinstatements, rate, premium, placed] = terms;
-    Layer { attachment, limit, deductible, reinstatements, rate, premium, placed }
+/// Takes the rates that stand in a line, however many, off the front.
+fn rates(rest: &mut &[u8]) -> Option<Vec<u64>> {
+    let mut rates = Vec::new();
+    while word(rest, b" ").is_some() {
+        rates.push(number(rest)?);
+    }
+    Some(rates)
+}
+
+/// Takes a layer off the front, past its tier. The number of its reinstatements is that of its rates.
+fn layer_of(rest: &mut &[u8]) -> Option<Layer> {
+    let [attachment, limit, deductible, reinstatements, premium] = numbers(LAYER, rest)?;
+    let rates = rates(rest)?;
+    let [placed] = numbers(PLACED, rest)?;
+    let is_of_form = rates.len() as u64 == reinstatements;
+    is_of_form.then_some(Layer { attachment, limit, deductible, premium, rates, placed })
+}
+
+/// Takes a contract off the front.
+fn contract_at(rest: &mut &[u8]) -> Option<Contract> {
+    if word(rest, b"(risk").is_some() {
+        return layer_of(rest).map(Contract::Risk);
+    }
+    if word(rest, b"(cat").is_some() {
+        return layer_of(rest).map(Contract::Cat);
+    }
+    if rest.starts_with(b"(quota") {
+        let [number, cede, capacity, event_limit] = numbers(QUOTA, rest)?;
+        return Some(Contract::Treaty(Treaty { number, terms: Terms::Quota { cede, capacity }, event_limit }));
+    }
+    let [number, retention, lines, event_limit] = numbers(SURPLUS, rest)?;
+    Some(Contract::Treaty(Treaty { number, terms: Terms::Surplus { retention, lines }, event_limit }))
 }
 
 fn contract_of(line: &[u8]) -> Option<Contract> {
-    if let Some([number, cede, capacity, event_limit]) = numbers(QUOTA, line) {
-        let terms = Terms::Quota { cede, capacity };
-        return Some(Contract::Treaty(Treaty { number, terms, event_limit }));
-    }
-    if let Some([number, retention, lines, event_limit]) = numbers(SURPLUS, line) {
-        let terms = Terms::Surplus { retention, lines };
-        return Some(Contract::Treaty(Treaty { number, terms, event_limit }));
-    }
-    if let Some(terms) = numbers(RISK, line) {
-        return Some(Contract::Risk(layer_of(terms)));
-    }
-    numbers(CAT, line).map(|terms| Contract::Cat(layer_of(terms)))
+    let mut rest = line;
+    contract_at(&mut rest).filter(|_| rest.is_empty())
 }
 
 impl Treaty {
@@ -86,8 +108,8 @@ impl Layer {
         self.attachment <= LARGEST_AMOUNT
             && (1..=LARGEST_AMOUNT).contains(&self.limit)
             && self.deductible <= 1_000_000_000_000_000
-            && self.reinstatements <= 20
-            && self.rate <= 20_000
+            && self.rates.len() <= MOST_RATES
+            && self.rates.iter().all(|rate| *rate <= LARGEST_RATE)
             && self.premium <= 1_000_000_000_000
             && self.placed <= WHOLE
     }
@@ -170,8 +192,9 @@ fn treaty_line(treaty: &Treaty) -> String {
 }
 
 fn layer_line(tier: &str, layer: &Layer) -> String {
-    let Layer { attachment, limit, deductible, reinstatements, rate, premium, placed } = layer;
-    let back = format!("(back {reinstatements} {rate} {premium})");
+    let Layer { attachment, limit, deductible, premium, rates, placed } = layer;
+    let listed: String = rates.iter().map(|rate| format!(" {rate}")).collect();
+    let back = format!("(back {} {premium}{listed})", rates.len());
     format!("({tier} (band {attachment} {limit}) (deduct {deductible}) {back} (placed {placed}))\n")
 }
 

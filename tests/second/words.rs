@@ -23,15 +23,14 @@ pub fn word(rest: &mut &[u8], expected: &[u8]) -> Option<()> {
     Some(())
 }
 
-/// The numbers of a line that has the form, where `#` stands for a number.
-pub fn numbers<const N: usize>(form: &str, line: &[u8]) -> Option<[u64; N]> {
-    let mut rest = line;
+/// Takes a form off the front, where `#` stands for a number; gives its numbers.
+pub fn numbers<const N: usize>(form: &str, rest: &mut &[u8]) -> Option<[u64; N]> {
     let mut found = [0; N];
     let mut words = form.split('#');
-    word(&mut rest, words.next()?.as_bytes())?;
+    word(rest, words.next()?.as_bytes())?;
     for (place, after) in found.iter_mut().zip(words) {
-        *place = number(&mut rest)?;
-        word(&mut rest, after.as_bytes())?;
+        *place = number(rest)?;
+        word(rest, after.as_bytes())?;
     }
-    rest.is_empty().then_some(found)
+    Some(found)
 }

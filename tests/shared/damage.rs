@@ -1,7 +1,7 @@
 //! Faults put into the lines of a text that is accepted, a table or events: each aims at one refusal, or at none in
 //! particular.
 
-use crate::draw::{line, Lines, LARGEST_AMOUNT};
+use crate::draw::{line, Lines, LARGEST_AMOUNT, LARGEST_RATE, MOST_RATES};
 use crate::random::Random;
 
 /// Puts a fault into the line at a place.
@@ -14,8 +14,10 @@ pub const AMOUNT: Range = (0, LARGEST_AMOUNT);
 pub const SHARE: Range = (0, 10_000);
 const QUOTA: [Range; 4] = [(1, 8), SHARE, AMOUNT, AMOUNT];
 const SURPLUS: [Range; 4] = [(1, 8), AMOUNT, (0, 100), AMOUNT];
-pub const LAYER: [Range; 7] =
-    [AMOUNT, (1, LARGEST_AMOUNT), (0, 1_000_000_000_000_000), (0, 20), (0, 20_000), (0, 1_000_000_000_000), SHARE];
+/// A layer's numbers but for its rates, which stand before the last.
+pub const LAYER: [Range; 6] =
+    [AMOUNT, (1, LARGEST_AMOUNT), (0, 1_000_000_000_000_000), (0, MOST_RATES), (0, 1_000_000_000_000), SHARE];
+pub const RATE: Range = (0, LARGEST_RATE);
 const LOSS: [Range; 3] = [(0, 8), (1, LARGEST_AMOUNT), AMOUNT];
 
 /// Bytes next to the line feed in number, a bit away from it, or above 127.
@@ -30,7 +32,8 @@ pub fn ranges(line: &[u8]) -> Vec<Range> {
     } else if line.starts_with(b"(event") {
         std::iter::once((1, 366)).chain(LOSS.into_iter().cycle().take(300)).collect()
     } else {
-        LAYER.to_vec()
+        let rates = vec![RATE; number_places(line).len().saturating_sub(LAYER.len())];
+        [&LAYER[..5], &rates, &LAYER[5..]].concat()
     };
     form.into_iter().take(number_places(line).len()).collect()
 }
@@ -146,7 +149,7 @@ pub fn form(random: &mut Random, lines: &mut Lines, place: usize) {
     }
 }
 
-/// Refusals 3 and 11: a number outside its range.
+/// Refusals 3 and 11: a number outside its range; of a layer's K it makes a line out of form.
 pub fn range(random: &mut Random, lines: &mut Lines, place: usize) {
     let ranges = ranges(&lines[place]);
     if ranges.is_empty() {

@@ -8,6 +8,8 @@ pub type Lines = Vec<Vec<u8>>;
 pub const LARGEST_AMOUNT: u64 = 10_000_000_000_000;
 const LARGEST_PREMIUM: u64 = 1_000_000_000_000;
 const LARGEST_DEDUCTIBLE: u64 = 1_000_000_000_000_000;
+pub const LARGEST_RATE: u64 = 20_000;
+pub const MOST_RATES: u64 = 20;
 const SHARES: [u64; 10] = [0, 1, 3_333, 5_000, 6_667, 7_200, 7_201, 8_000, 9_999, 10_000];
 
 /// A table under way: its lines, its treaties, the amounts at which its terms change the result, and losses (treaty,
@@ -113,15 +115,52 @@ fn surplus(random: &mut Random, number: u64, scale: u64, table: &mut Table) {
     table.lines.push(line(format!("(surplus {number} (retain {retention}) (lines {lines}) (event {limit}))")));
 }
 
+/// The rate of one reinstatement.
+fn rate(random: &mut Random) -> u64 {
+    if random.one_in(3) {
+        return random.between(0, LARGEST_RATE);
+    }
+    random.pick(&[0, 0, 1, 3_333, 5_000, 7_201, 10_000, 12_345, 19_999, LARGEST_RATE])
+}
+
+/// The rates of so many reinstatements: all of them different, halves and wholes, each drawn by itself, or seldom one
+/// rate for all.
+fn rates(random: &mut Random, count: u64) -> Vec<u64> {
+    let (first, step) = (rate(random), random.pick(&[1, 7, 1_000, 7_201, LARGEST_RATE]));
+    match random.between(0, 8) {
+        0 => vec![first; count as usize],
+        1..=3 => (0..count).map(|place| (first + place * step) % (LARGEST_RATE + 1)).collect(),
+        4 | 5 => (0..count).map(|_| 5_000 * random.between(0, 4)).collect(),
+        _ => (0..count).map(|_| rate(random)).collect(),
+    }
+}
+
+/// A premium; one of just the limit makes half cents of half rates.
+fn premium(random: &mut Random, limit: u64) -> u64 {
+    let premium = match random.between(0, 8) {
+        0 => LARGEST_PREMIUM,
+        1 | 2 => limit,
+        _ => near(random, limit / 4 + 1),
+    };
+    premium.min(LARGEST_PREMIUM)
+}
+
+/// Reinstatements, premium and rates, as a layer's line has them.
+pub fn back(premium: u64, rates: &[u64]) -> String {
+    let listed: String = rates.iter().map(|rate| format!(" {rate}")).collect();
+    format!("(back {} {premium}{listed})", rates.len())
+}
+
 fn layer(random: &mut Random, tier: &str, attachment: u64, limit: u64, table: &mut Table) {
     let deductible = random.pick(&[0, 0, limit / 3, limit, 2 * limit + 1, LARGEST_DEDUCTIBLE / 2]);
     let deductible = if random.one_in(40) { LARGEST_DEDUCTIBLE } else { deductible.min(LARGEST_DEDUCTIBLE) };
-    let back = random.pick(&[0, 1, 1, 1, 2, 3, 20]);
-    let rate = random.pick(&[0, 1, 5_000, 10_000, 10_000, 12_345, 20_000]);
-    let premium = if random.one_in(9) { LARGEST_PREMIUM } else { near(random, limit / 4 + 1).min(LARGEST_PREMIUM) };
+    let any = random.between(0, MOST_RATES);
+    let count = random.pick(&[0, 1, 1, 2, 2, 3, MOST_RATES, MOST_RATES, any]);
+    let rates = rates(random, count);
+    let premium = premium(random, limit);
     let placed = share(random);
     table.marks.extend([attachment, attachment + limit]);
-    let terms = format!("(deduct {deductible}) (back {back} {rate} {premium}) (placed {placed})");
+    let terms = format!("(deduct {deductible}) {} (placed {placed})", back(premium, &rates));
     table.lines.push(line(format!("({tier} (band {attachment} {limit}) {terms})")));
 }
 
@@ -227,10 +266,11 @@ pub fn largest_table(random: &mut Random) -> Table {
         let attachment = random.pick(&[0, 1, LARGEST_AMOUNT / 2, LARGEST_AMOUNT]);
         let limit = random.pick(&[1, LARGEST_AMOUNT - 1, LARGEST_AMOUNT]);
         let deductible = random.pick(&[0, LARGEST_AMOUNT, LARGEST_DEDUCTIBLE]);
-        let (back, rate) = (random.pick(&[19, 20]), random.pick(&[19_999, 20_000]));
+        let count = random.pick(&[MOST_RATES - 1, MOST_RATES]);
+        let rates: Vec<u64> = (0..count).map(|_| random.pick(&[LARGEST_RATE - 1, LARGEST_RATE])).collect();
         let premium = random.pick(&[LARGEST_PREMIUM - 1, LARGEST_PREMIUM]);
         let placed = random.pick(&[9_999, 10_000]);
-        let terms = format!("(deduct {deductible}) (back {back} {rate} {premium}) (placed {placed})");
+        let terms = format!("(deduct {deductible}) {} (placed {placed})", back(premium, &rates));
         table.lines.push(line(format!("({tier} (band {attachment} {limit}) {terms})")));
     }
     table

@@ -39,7 +39,7 @@ impl Roundings {
     }
 
     fn count_layer(&mut self, layer: &Layer, cover: u64) {
-        let used = layer.limit * (layer.reinstatements + 1) - cover;
+        let used = layer.cap() - layer.deductible - cover;
         self.add(PLACED_SHARE, &layer.at_placed_share(used));
         self.add(PREMIUM, &layer.exact_premium(used));
     }

@@ -3,10 +3,10 @@
 use crate::calculation::table::TABLE_BYTES;
 use crate::calculation::EVENTS_BYTES;
 use crate::damage::{self, Fault, NEARLY_FEEDS};
-use crate::draw::{self, line, Lines, Table};
+use crate::draw::{self, line, Lines, Table, LARGEST_RATE, MOST_RATES};
 use crate::printed::printed;
 use crate::random::Random;
-use crate::table_damage::{self, MISPLACED};
+use crate::table_damage::{self, MISPLACED, MISRATED};
 use crate::totals::{has_all, totals};
 
 /// What stands under the name programme.txt.
@@ -38,29 +38,41 @@ fn text_case(table: &Lines, events: &Lines) -> Case {
     Case { file: File::Text(table.concat()), events: events.concat() }
 }
 
-/// One number of one form at or past an end of its range.
+/// A form, and the same with one number at or past an end of its range.
 struct Edge {
-    line: &'static str,
-    number: usize,
-    value: u64,
+    form: &'static str,
+    text: Vec<u8>,
 }
 
 const FORMS: [&str; 5] = [
     "(quota 3 (cede 4000) (capacity 20000) (event 15000))",
     "(surplus 3 (retain 10000) (lines 3) (event 30000))",
-    "(risk (band 500 1000) (deduct 300) (back 1 10000 250) (placed 7200))",
-    "(cat (band 2000 9000) (deduct 100) (back 2 5000 777) (placed 3333))",
+    "(risk (band 500 1000) (deduct 300) (back 2 250 0 10000) (placed 7200))",
+    "(cat (band 2000 9000) (deduct 100) (back 3 777 5000 1 12345) (placed 3333))",
     "(event 40 (loss 3 12000 11000))",
 ];
 
-/// The last two values have sixteen digits and seventeen.
+/// The last two values of each number have sixteen digits and seventeen. A layer's K comes a second time with as many
+/// rates as it says.
 fn edges() -> Vec<Edge> {
     let mut edges = Vec::new();
-    for line in FORMS {
-        for (number, (low, high)) in damage::ranges(line.as_bytes()).into_iter().enumerate() {
+    for form in FORMS {
+        for (number, (low, high)) in damage::ranges(form.as_bytes()).into_iter().enumerate() {
             let values = [low.saturating_sub(1), low, high, high + 1, 9_999_999_999_999_999, 10_000_000_000_000_000];
-            edges.extend(values.map(|value| Edge { line, number, value }));
+            edges.extend(values.map(|value| {
+                let mut text = line(form.to_string());
+                damage::replace_number(&mut text, number, value.to_string().as_bytes());
+                Edge { form, text }
+            }));
         }
+    }
+    for form in [FORMS[2], FORMS[3]] {
+        edges.extend([0, 1, MOST_RATES, MOST_RATES + 1].map(|count| {
+            let rates: Vec<u64> = (0..count).map(|place| 7_201 * place % (LARGEST_RATE + 1)).collect();
+            let mut text = line(form.to_string());
+            table_damage::set_rates(&mut text, count, &rates);
+            Edge { form, text }
+        }));
     }
     edges
 }
@@ -111,6 +123,7 @@ impl Cases {
             28 => self.misplaced(),
             29 => self.misended(false),
             30 => self.misended(true),
+            31 => self.misrated(),
             _ => self.year(),
         }
     }
@@ -145,7 +158,14 @@ impl Cases {
     fn damaged_table(&mut self, fault: Fault) -> Case {
         let (table, mut events) = self.draw(3);
         let mut lines = table.lines;
-        let others = [damage::form, damage::range, table_damage::order, table_damage::band, damage::bytes];
+        let others = [
+            damage::form,
+            damage::range,
+            table_damage::order,
+            table_damage::band,
+            table_damage::rates,
+            damage::bytes,
+        ];
         self.damage(&mut lines, fault, &others);
         if self.round % 4 == 1 {
             self.damage(&mut events, damage::form, &[damage::bytes]);
@@ -159,6 +179,14 @@ impl Cases {
         let mut lines = table.lines;
         let (kind, later) = MISPLACED[self.round % MISPLACED.len()];
         table_damage::misplace(&mut self.random, &mut lines, kind, later);
+        text_case(&lines, &events)
+    }
+
+    /// A table with a layer whose K or rates are wrong, and no other fault; each way in turn.
+    fn misrated(&mut self) -> Case {
+        let (table, events) = self.draw(2);
+        let mut lines = table.lines;
+        table_damage::misrate(&mut self.random, &mut lines, self.round % MISRATED.len());
         text_case(&lines, &events)
     }
 
@@ -209,19 +237,13 @@ impl Cases {
 
     /// The next edge in turn, in a table that has one line of each other kind.
     fn edge(&mut self) -> Case {
-        let edge = &self.edges[self.next_edge];
+        let Edge { form, text } = &self.edges[self.next_edge];
         self.next_edge = (self.next_edge + 1) % self.edges.len();
-        let mut table: Lines = Vec::new();
-        let treaty = if edge.line == FORMS[1] { FORMS[1] } else { FORMS[0] };
-        for form in [treaty, FORMS[2], FORMS[3], FORMS[4]] {
-            let mut text = line(form.to_string());
-            if form == edge.line {
-                damage::replace_number(&mut text, edge.number, edge.value.to_string().as_bytes());
-            }
-            table.push(text);
-        }
+        let treaty = if *form == FORMS[1] { FORMS[1] } else { FORMS[0] };
+        let of_form = |other: &str| if other == *form { text.clone() } else { line(other.to_string()) };
+        let mut table: Lines = [treaty, FORMS[2], FORMS[3], FORMS[4]].map(of_form).to_vec();
         let mut event = table.pop().unwrap_or_default();
-        if edge.line == treaty {
+        if *form == treaty {
             let number = damage::number_at(&table[0], 0).clamp(1, 8);
             damage::replace_number(&mut event, 1, number.to_string().as_bytes());
         }

@@ -17,6 +17,8 @@ mod limits;
 mod printed;
 #[path = "../shared/random.rs"]
 mod random;
+#[path = "../shared/rates.rs"]
+mod rates;
 #[path = "../shared/roundings.rs"]
 mod roundings;
 #[path = "../shared/show.rs"]

@@ -1,8 +1,9 @@
 //! Faults put into the lines of a table that is accepted.
 
 use crate::damage::{form, number_at, range, replace_number, Fault};
-use crate::draw::{line, Lines, LARGEST_AMOUNT};
+use crate::draw::{line, Lines, LARGEST_AMOUNT, LARGEST_RATE, MOST_RATES};
 use crate::random::Random;
+use std::cmp::Ordering;
 
 /// The kinds of a table's lines, in the order in which they stand.
 #[derive(Clone, Copy, Debug, PartialEq, Eq)]
@@ -15,6 +16,15 @@ pub enum Kind {
 /// Each kind behind each later one.
 pub const MISPLACED: [(Kind, Kind); 3] =
     [(Kind::Treaty, Kind::Risk), (Kind::Treaty, Kind::Cat), (Kind::Risk, Kind::Cat)];
+
+/// What can be wrong with a layer's K and its rates, each with its refusal.
+pub const MISRATED: [(&str, u64); 5] = [
+    ("too few rates", 2),
+    ("too many rates", 2),
+    ("k too large without its rates", 2),
+    ("k too large with its rates", 3),
+    ("a rate too large", 3),
+];
 
 /// The kind of a line by its first word, if it has one.
 pub fn kind_of(line: &[u8]) -> Option<Kind> {
@@ -46,8 +56,8 @@ pub fn order(random: &mut Random, lines: &mut Lines, place: usize) {
 fn plain(kind: Kind) -> Vec<u8> {
     let text = match kind {
         Kind::Treaty => "(quota 8 (cede 1) (capacity 1) (event 1))",
-        Kind::Risk => "(risk (band 0 1) (deduct 0) (back 0 0 0) (placed 1))",
-        Kind::Cat => "(cat (band 0 1) (deduct 0) (back 0 0 0) (placed 1))",
+        Kind::Risk => "(risk (band 0 1) (deduct 0) (back 0 0) (placed 1))",
+        Kind::Cat => "(cat (band 0 1) (deduct 0) (back 0 0) (placed 1))",
     };
     line(text.to_string())
 }
@@ -72,7 +82,7 @@ pub fn misplace(random: &mut Random, lines: &mut Lines, kind: Kind, later: Kind)
 pub fn ninth(random: &mut Random, lines: &mut Lines, _: usize) {
     let tier = random.pick(&["risk", "cat"]);
     let low = LARGEST_AMOUNT - 9;
-    let layer = |attachment| line(format!("({tier} (band {attachment} 1) (deduct 0) (back 0 0 0) (placed 1))"));
+    let layer = |attachment| line(format!("({tier} (band {attachment} 1) (deduct 0) (back 0 0) (placed 1))"));
     lines.retain(|text| !is_layer(text));
     lines.extend((low..low + 8).map(layer));
     if !random.one_in(4) {
@@ -91,6 +101,81 @@ pub fn band(random: &mut Random, lines: &mut Lines, place: usize) {
     let attachment = random.pick(&[end, end.saturating_sub(1), end.saturating_sub(1), 0]);
     replace_number(&mut after, 0, attachment.to_string().as_bytes());
     lines.insert(place + 1, after);
+}
+
+/// Where the items of a layer's reinstatements begin and end in its line.
+fn back_place(line: &[u8]) -> Option<(usize, usize)> {
+    let begin = line.windows(6).position(|bytes| bytes == b"(back ")? + 6;
+    let length = line[begin..].iter().position(|byte| *byte == b')')?;
+    Some((begin, begin + length))
+}
+
+/// A layer's K, premium and rates; none if they are not numbers.
+fn back_of(line: &[u8]) -> Option<(u64, u64, Vec<u64>)> {
+    let (begin, end) = back_place(line)?;
+    let items = std::str::from_utf8(&line[begin..end]).ok()?.split(' ').map(str::parse);
+    match items.collect::<Result<Vec<u64>, _>>().ok()?.as_slice() {
+        [count, premium, rates @ ..] => Some((*count, *premium, rates.to_vec())),
+        _ => None,
+    }
+}
+
+/// Puts another K and other rates into a layer's line.
+pub fn set_rates(line: &mut Vec<u8>, count: u64, rates: &[u64]) {
+    if let (Some((begin, end)), Some((_, premium, _))) = (back_place(line), back_of(line)) {
+        let listed: String = rates.iter().map(|rate| format!(" {rate}")).collect();
+        line.splice(begin..end, format!("{count} {premium}{listed}").into_bytes());
+    }
+}
+
+/// Which of these is wrong with the line at fault, if one is.
+pub fn misrated(line: &[u8], refusal: u64) -> Option<usize> {
+    let (count, _, rates) = back_of(line)?;
+    let place = match (rates.len() as u64).cmp(&count) {
+        _ if count > MOST_RATES && rates.len() as u64 != count => 2,
+        Ordering::Less => 0,
+        Ordering::Greater => 1,
+        Ordering::Equal if count > MOST_RATES => 3,
+        Ordering::Equal if rates.iter().any(|rate| *rate > LARGEST_RATE) => 4,
+        Ordering::Equal => return None,
+    };
+    (MISRATED[place].1 == refusal).then_some(place)
+}
+
+/// Refusals 2 and 3: something wrong with the K and the rates of a layer. A table without a layer is given one.
+pub fn misrate(random: &mut Random, lines: &mut Lines, wrong: usize) {
+    if !lines.iter().any(|line| is_layer(line)) {
+        lines.push(plain(Kind::Cat));
+    }
+    let places: Vec<usize> = (0..lines.len()).filter(|place| is_layer(&lines[*place])).collect();
+    let line = &mut lines[random.pick(&places)];
+    let Some((count, _, rates)) = back_of(line) else { return };
+    let rate = random.pick(&[0, 1, 7_201, LARGEST_RATE]);
+    let some = [rates.clone(), vec![rate]].concat();
+    let (count, rates) = match wrong {
+        0 if count == 0 => (random.pick(&[1, MOST_RATES]), rates),
+        0 => (count, rates[random.place(rates.len())..].iter().skip(1).copied().collect()),
+        1 if count > 0 && random.one_in(2) => (random.between(0, count - 1), rates),
+        1 => (count, some),
+        2 => (random.pick(&[21, 22, 9_999_999_999_999_999]), vec![rate; random.pick(&[0, 1, 19, 20])]),
+        3 => {
+            let count = random.pick(&[21, 21, 22, 40, 100]);
+            (count, some.iter().cycle().take(count as usize).copied().collect())
+        }
+        _ => {
+            let mut rates = if rates.is_empty() { some } else { rates };
+            let place = random.place(rates.len());
+            rates[place] = random.pick(&[LARGEST_RATE + 1, LARGEST_RATE + 1, 40_000, 9_999_999_999_999_999]);
+            (rates.len() as u64, rates)
+        }
+    };
+    set_rates(line, count, &rates);
+}
+
+/// The same as one fault among others.
+pub fn rates(random: &mut Random, lines: &mut Lines, _: usize) {
+    let wrong = random.place(MISRATED.len());
+    misrate(random, lines, wrong);
 }
 
 /// Two faults on one line of a table, where the lower refusal decides.

@@ -3,8 +3,9 @@
 use crate::calculation::read_table;
 use crate::feeds::Feeds;
 use crate::limits::Limits;
+use crate::rates::Rates;
 use crate::roundings::Roundings;
-use crate::table_damage::{kind_of, MISPLACED};
+use crate::table_damage::{kind_of, misrated, MISPLACED, MISRATED};
 use crate::totals::{has_all, numbers, totals};
 use std::collections::BTreeMap;
 
@@ -27,6 +28,8 @@ pub struct Tally {
     refused: BTreeMap<u64, usize>,
     /// Tables refused with 4 for a line behind one of a later kind, by the pair of kinds.
     misplaced: [usize; MISPLACED.len()],
+    /// Tables refused with 2 or 3 for a layer's K or rates, by what is wrong with them.
+    misrated: [usize; MISRATED.len()],
     ceded: usize,
     risk: usize,
     cat: usize,
@@ -34,6 +37,7 @@ pub struct Tally {
     all: usize,
     limits: Limits,
     roundings: Roundings,
+    rates: Rates,
     table_feeds: Feeds,
     events_feeds: Feeds,
 }
@@ -41,6 +45,11 @@ pub struct Tally {
 /// The pairs of kinds in words.
 fn misplaced_names() -> impl Iterator<Item = String> {
     MISPLACED.iter().map(|(kind, later)| format!("{kind:?} after {later:?}").to_lowercase())
+}
+
+/// The line of a text, counted from 1.
+fn line_at(text: &[u8], line: u64) -> Option<&[u8]> {
+    text.split(|byte| *byte == b'\n').nth((line as usize).checked_sub(1)?)
 }
 
 impl Tally {
@@ -55,6 +64,7 @@ impl Tally {
         if let Ok(programme) = read_table(table) {
             self.limits.count(&programme, events);
             self.roundings.count(&programme, events, printed);
+            self.rates.count(&programme, printed);
         }
         self.accepted += 1;
         self.ceded += usize::from(amounts[1] > 0);
@@ -68,6 +78,9 @@ impl Tally {
         let answer = numbers(&String::from_utf8_lossy(printed));
         let [refusal, second] = answer[..] else { return };
         *self.refused.entry(refusal).or_default() += 1;
+        if let Some(wrong) = line_at(table, second).and_then(|line| misrated(line, refusal)) {
+            self.misrated[wrong] += 1;
+        }
         match refusal {
             2 => self.table_feeds.count(table, Some(second as usize)),
             4 => self.count_misplaced(table, second as usize),
@@ -94,8 +107,11 @@ impl Tally {
         println!(", all four {}", self.all);
         let counts = misplaced_names().zip(self.misplaced).map(|(name, count)| format!("{name} {count}"));
         println!("years: out of order: {}", counts.collect::<Vec<String>>().join(", "));
+        let counts = MISRATED.iter().zip(self.misrated).map(|((name, _), count)| format!("{name} {count}"));
+        println!("years: refused rates: {}", counts.collect::<Vec<String>>().join(", "));
         println!("years: {}", self.limits.shown());
         println!("years: {}", self.roundings.shown());
+        println!("years: {}", self.rates.shown());
         println!("years: tables: {}", self.table_feeds.shown());
         println!("years: events: {}", self.events_feeds.shown());
     }
@@ -106,11 +122,14 @@ impl Tally {
         let mut missing: Vec<String> = unseen.map(|refusal| format!("no year refused with {refusal}")).collect();
         let unplaced = misplaced_names().zip(self.misplaced).filter(|(_, count)| *count == 0);
         missing.extend(unplaced.map(|(name, _)| format!("no table with a {name}")));
+        let unseen = MISRATED.iter().zip(self.misrated).filter(|(_, count)| *count == 0);
+        missing.extend(unseen.map(|((name, refusal), _)| format!("no table refused with {refusal} for {name}")));
         let limits = self.limits.counts().into_iter();
         let too_few = limits.filter(|(_, count)| count * 100 < self.compared * LEAST_LIMITS);
         missing.extend(too_few.map(|(name, count)| format!("event limits met: {name}: {count}, too few")));
         let too_few = self.roundings.counts().filter(|(_, count)| count * 100 < self.compared * LEAST_ROUNDINGS);
         missing.extend(too_few.map(|(name, count)| format!("rounded: {name}: {count}, too few")));
+        missing.extend(self.rates.unmet().map(|name| format!("reinstated: none met: {name}")));
         missing.extend(self.table_feeds.unmet().map(|name| format!("line feeds of tables: none met: {name}")));
         missing.extend(self.events_feeds.unmet().map(|name| format!("line feeds of events: none met: {name}")));
         if self.all * 100 < self.compared * LEAST_FULL_YEARS {

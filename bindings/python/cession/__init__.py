@@ -6,7 +6,7 @@ whole cents; shares and rates are basis points, 10,000 to the whole. Every divis
 halves up.
 
 >>> import cession
->>> table = b"(cat (band 100000000 150000000) (deduct 0) (back 1 5000 75000000) (placed 8000))\\n"
+>>> table = b"(cat (band 100000000 150000000) (deduct 0) (back 1 75000000 5000) (placed 8000))\\n"
 >>> programme = cession.read(table)
 >>> standing = cession.open_year(programme)
 >>> statement, standing = cession.run(programme, standing, b"(event 230 (loss 0 350000000 350000000))\\n")
@@ -14,6 +14,14 @@ halves up.
 (layer cat 1 (deductible 0) (cover 150000000) (recovered 120000000) (premium 30000000))
 >>> standing.cat[0], standing.day
 (150000000, 230)
+
+A first reinstatement that is free, and a second at 100% of the premium: what is used above 100 is charged.
+
+>>> layer = cession.Terms(attachment=0, limit=100, reinstatements=2, premium=1000, placed=10000, rates=(0, 10000))
+>>> two = cession.Programme(cat=[layer])
+>>> events = b"(event 9 (loss 0 100 100))\\n(event 10 (loss 0 50 50))\\n"
+>>> print(cession.run(two, cession.open_year(two), events)[0].decode().splitlines()[2])
+(layer cat 1 (deductible 0) (cover 150) (recovered 150) (premium 500))
 
 Half of 101 is 50.5:
 
@@ -31,13 +39,13 @@ A call that is turned down:
 
 The shared object is the file that the environment's CESSION_LIBRARY names, else libcession.so beside this module, else
 what the system's loader finds under that name. The calls are pure functions of what is lent to them and may run in any
-number of threads at once; a run takes about 13 kB of stack for up to 1,024 bytes of events and about 132 kB for the
+number of threads at once; a run takes about 21 kB of stack for up to 1,024 bytes of events and about 140 kB for the
 longest text, so that a thread of 256 kB has enough.
 """
 
 from .calls import EVENTS_BYTES, TABLE_BYTES, open_year, read, run, run_into, write, write_into
 from .contracts import QUOTA_SHARE, SURPLUS, Programme, Standing, Terms, Treaty
-from .raw import PLACES
+from .raw import PLACES, RATES
 from .refusals import (
     BufferTooShort,
     EventsRefused,
@@ -57,6 +65,7 @@ __all__ = [
     "Programme",
     "ProgrammeRefused",
     "QUOTA_SHARE",
+    "RATES",
     "Refusal",
     "Refused",
     "SURPLUS",

@@ -23,9 +23,21 @@ def _word(name: str, value: int) -> int:
     return value
 
 
+def _numbers(name: str, values: tuple, count: int) -> tuple:
+    """So many numbers, each in a place of its own."""
+    if len(values) != count:
+        raise ValueError(f"{name} has {len(values)} places and must have {count}")
+    return tuple(_word(f"{name}[{place}]", value) for place, value in enumerate(values))
+
+
 def _filled(structure: type, name: str, record: object):
-    """The structure with the record's number in each of its fields."""
-    return structure(*(_word(f"{name}.{field}", getattr(record, field)) for field, _ in structure._fields_))
+    """The structure with what the record has in each of its fields, a number or a row of them."""
+    filled = structure()
+    for field, kind in structure._fields_:
+        value, named = getattr(record, field), f"{name}.{field}"
+        row = getattr(kind, "_length_", None)
+        setattr(filled, field, _word(named, value) if row is None else kind(*_numbers(named, value, row)))
+    return filled
 
 
 def _places(structure: type, kind: type, name: str, records: tuple):
@@ -40,17 +52,15 @@ def _places(structure: type, kind: type, name: str, records: tuple):
     return structure((numbers * raw.PLACES)(*filled), len(records))
 
 
-def _spent(name: str, amounts: tuple):
-    """The spent amounts of one tier."""
-    if len(amounts) != raw.PLACES:
-        raise ValueError(f"{name} has {len(amounts)} places and must have {raw.PLACES}")
-    return tuple(_word(f"{name}[{place}]", amount) for place, amount in enumerate(amounts))
+def _value(number):
+    """What a structure has in a field: a number, or a row of them."""
+    return number if isinstance(number, int) else tuple(number)
 
 
 def _taken(kind: type, places) -> tuple:
     """The records in the places in use."""
     used = places.places[: places.count]
-    return tuple(kind(*(getattr(place, field) for field, _ in place._fields_)) for place in used)
+    return tuple(kind(*(_value(getattr(place, field)) for field, _ in place._fields_)) for place in used)
 
 
 @dataclass(frozen=True)
@@ -74,20 +84,27 @@ class Treaty:
 
 @dataclass(frozen=True)
 class Terms:
-    """The terms of an excess layer. The deductible is yearly; reinstatements are a number, and their rate is of the
-    premium, which is that for 100% of the layer.
+    """The terms of an excess layer. The deductible is yearly; reinstatements are a number, and each has its rate of
+    the premium, which is that for 100% of the layer. Rates stand in 20 places, in the order in which the
+    reinstatements are used; those that are left out are 0.
 
     >>> Terms(attachment=50, limit=100, placed=9000).deductible
     0
+    >>> Terms(attachment=50, limit=100, reinstatements=2, premium=1000, rates=(0, 10000)).rates[:3]
+    (0, 10000, 0)
     """
 
     attachment: int
     limit: int
     deductible: int = 0
     reinstatements: int = 0
-    rate: int = 0
     premium: int = 0
     placed: int = 0
+    rates: Tuple[int, ...] = ()
+
+    def __post_init__(self):
+        rates = tuple(self.rates)
+        object.__setattr__(self, "rates", rates + (0,) * (raw.RATES - len(rates)))
 
 
 @dataclass(frozen=True)
@@ -162,7 +179,8 @@ class Standing:
         Traceback (most recent call last):
         ValueError: day is -1 and must be from 0 to 2**64 - 1
         """
-        return raw.Standing(_spent("risk", self.risk), _spent("cat", self.cat), _word("day", self.day))
+        risk, cat = (_numbers(name, getattr(self, name), raw.PLACES) for name in ("risk", "cat"))
+        return raw.Standing(risk, cat, _word("day", self.day))
 
     @classmethod
     def from_raw(cls, numbers: raw.Standing) -> "Standing":

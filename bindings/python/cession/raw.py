@@ -15,6 +15,7 @@ import pathlib
 from ctypes import POINTER, Structure, c_char_p, c_size_t, c_uint64, c_void_p
 
 PLACES = 8
+RATES = 20
 
 
 class Treaty(Structure):
@@ -32,16 +33,16 @@ class Treaty(Structure):
 
 
 class Terms(Structure):
-    """The terms of an excess layer."""
+    """The terms of an excess layer: each reinstatement's rate, in the order of their use, and 0 past the last."""
 
     _fields_ = [
         ("attachment", c_uint64),
         ("limit", c_uint64),
         ("deductible", c_uint64),
         ("reinstatements", c_uint64),
-        ("rate", c_uint64),
         ("premium", c_uint64),
         ("placed", c_uint64),
+        ("rates", c_uint64 * RATES),
     ]
 
 

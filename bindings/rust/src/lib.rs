@@ -8,7 +8,7 @@
 //! ```
 //! use cession::Programme;
 //!
-//! let table = b"(cat (band 100000000 150000000) (deduct 0) (back 1 5000 75000000) (placed 8000))\n";
+//! let table = b"(cat (band 100000000 150000000) (deduct 0) (back 1 75000000 5000) (placed 8000))\n";
 //! let programme = Programme::read(table)?;
 //! let mut standing = programme.open()?;
 //! let statement = programme.run(&mut standing, b"(event 230 (loss 0 350000000 350000000))\n")?;
@@ -25,7 +25,7 @@
 //! ```
 //!
 //! The calls are pure functions of what is lent to them and may run in any number of threads at once. A run takes
-//! about 13 kB of stack for up to 1,024 bytes of events and about 132 kB for the longest text: a thread of 256 kB has
+//! about 21 kB of stack for up to 1,024 bytes of events and about 140 kB for the longest text: a thread of 256 kB has
 //! enough for each call, and Rust's threads have 2 MB if nothing else is said. The library libcession.a is linked in;
 //! with Cargo, `CESSION_LIB_DIR` names its folder.
 
@@ -46,6 +46,17 @@ pub use standing::Standing;
 /// assert_eq!(programme.cat.places.len(), cession::PLACES);
 /// ```
 pub const PLACES: usize = 8;
+
+/// The places for the rates of a layer: it has at most as many reinstatements.
+///
+/// ```
+/// let table = b"(cat (band 50 100) (deduct 0) (back 2 1000 0 10000) (placed 9000))\n";
+/// let rates = cession::Programme::read(table)?.cat()[0].rates;
+/// assert_eq!(rates.len(), cession::RATES);
+/// assert_eq!(rates[..3], [0, 10_000, 0]);
+/// # Ok::<(), cession::Refusal>(())
+/// ```
+pub const RATES: usize = 20;
 
 /// The longest table text that is read, in bytes.
 ///

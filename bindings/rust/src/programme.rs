@@ -10,14 +10,20 @@ use crate::{raw, Refusal, Standing, Terms, Treaty, EVENTS_BYTES, TABLE_BYTES};
 /// ```
 /// use cession::{raw, Programme, Refusal, Terms};
 ///
-/// let layer = Terms { attachment: 50, limit: 100, placed: 9_000, ..Terms::default() };
+/// let mut layer = Terms { attachment: 50, limit: 100, placed: 9_000, ..Terms::default() };
 /// let mut numbers = raw::Programme::default();
 /// numbers.cat.places[0] = layer;
 /// assert_eq!(Programme::from(numbers).open(), Err(Refusal::NotAProgramme));
 ///
 /// numbers.cat.count = 1;
 /// let text = Programme::from(numbers).write()?;
-/// assert_eq!(text, b"(cat (band 50 100) (deduct 0) (back 0 0 0) (placed 9000))\n");
+/// assert_eq!(text, b"(cat (band 50 100) (deduct 0) (back 0 0) (placed 9000))\n");
+///
+/// // The first reinstatement is free, the second charged in full.
+/// (layer.reinstatements, layer.premium, layer.rates[1]) = (2, 1_000, 10_000);
+/// numbers.cat.places[0] = layer;
+/// let text = Programme::from(numbers).write()?;
+/// assert_eq!(text, b"(cat (band 50 100) (deduct 0) (back 2 1000 0 10000) (placed 9000))\n");
 /// # Ok::<(), Refusal>(())
 /// ```
 #[derive(Clone, Default, PartialEq, Eq, Debug)]
@@ -150,7 +156,7 @@ impl Programme {
     /// The risk layers in use, in the table's order.
     ///
     /// ```
-    /// let programme = cession::Programme::read(b"(risk (band 50 100) (deduct 7) (back 0 0 0) (placed 9000))\n")?;
+    /// let programme = cession::Programme::read(b"(risk (band 50 100) (deduct 7) (back 0 0) (placed 9000))\n")?;
     /// assert_eq!(programme.risk()[0].attachment, 50);
     /// assert!(programme.cat().is_empty());
     /// # Ok::<(), cession::Refusal>(())
@@ -162,7 +168,7 @@ impl Programme {
     /// The catastrophe layers in use, in the table's order.
     ///
     /// ```
-    /// let programme = cession::Programme::read(b"(cat (band 50 100) (deduct 7) (back 0 0 0) (placed 9000))\n")?;
+    /// let programme = cession::Programme::read(b"(cat (band 50 100) (deduct 7) (back 0 0) (placed 9000))\n")?;
     /// assert_eq!(programme.cat()[0].deductible, 7);
     /// assert!(programme.risk().is_empty());
     /// # Ok::<(), cession::Refusal>(())

@@ -55,12 +55,13 @@ pub struct Terms {
     pub deductible: u64,
     /// How many, 0 to 20.
     pub reinstatements: u64,
-    /// The reinstatements' rate, bp, 0 to 20,000.
-    pub rate: u64,
     /// For 100% of the layer, cents, 0 to 10^12.
     pub premium: u64,
     /// The placed share, bp, 0 to 10,000.
     pub placed: u64,
+    /// Each reinstatement's rate, bp, 0 to 20,000, in the order in which they are used; the rates past the last
+    /// reinstatement are 0.
+    pub rates: [u64; 20],
 }
 
 /// Treaties in the first `count` places; every number of the other places is 0.

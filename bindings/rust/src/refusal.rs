@@ -20,7 +20,8 @@ use std::fmt;
 pub enum Refusal {
     /// 1: the table text is over 8,192 bytes.
     TableTooLong,
-    /// 2: the line is none of the four forms of a table, or has no line feed.
+    /// 2: the line is none of the four forms of a table, or has no line feed; a layer's form has as many rates as
+    /// reinstatements.
     NotATableForm { line: u64 },
     /// 3: a number of the line is outside its range.
     TableNumberOutOfRange { line: u64 },

@@ -10,7 +10,7 @@ use crate::{raw, PLACES};
 /// ```
 /// use cession::{raw, Programme, Refusal, Standing};
 ///
-/// let programme = Programme::read(b"(cat (band 50 100) (deduct 0) (back 0 0 0) (placed 9000))\n")?;
+/// let programme = Programme::read(b"(cat (band 50 100) (deduct 0) (back 0 0) (placed 9000))\n")?;
 /// let mut standing = programme.open()?;
 /// programme.run(&mut standing, b"(event 7 (loss 0 120 120))\n")?;
 /// let kept: raw::Standing = standing.into();
@@ -27,7 +27,7 @@ impl Standing {
     /// The spent amount of each risk layer, in cents; 0 in a place without a layer.
     ///
     /// ```
-    /// let programme = cession::Programme::read(b"(risk (band 50 100) (deduct 0) (back 0 0 0) (placed 9000))\n")?;
+    /// let programme = cession::Programme::read(b"(risk (band 50 100) (deduct 0) (back 0 0) (placed 9000))\n")?;
     /// let mut standing = programme.open()?;
     /// programme.run(&mut standing, b"(event 1 (loss 0 60 51))\n")?;
     /// assert_eq!(standing.risk(), &[1, 0, 0, 0, 0, 0, 0, 0]);
@@ -40,7 +40,7 @@ impl Standing {
     /// The spent amount of each cat layer, in cents; 0 in a place without a layer.
     ///
     /// ```
-    /// let programme = cession::Programme::read(b"(cat (band 50 100) (deduct 0) (back 0 0 0) (placed 9000))\n")?;
+    /// let programme = cession::Programme::read(b"(cat (band 50 100) (deduct 0) (back 0 0) (placed 9000))\n")?;
     /// let mut standing = programme.open()?;
     /// programme.run(&mut standing, b"(event 1 (loss 0 60 48) (loss 0 60 45))\n")?;
     /// assert_eq!(standing.cat(), &[43, 0, 0, 0, 0, 0, 0, 0]);

@@ -9,8 +9,7 @@ use Rattle.treaty.specs.declared.Treaty.{Treaty}
 use Rattle.layer.specs.declared.record.Layer.{Layer}
 use Rattle.layer.specs.Ranges.{Sound}
 use Rattle.layer.specs.Tier.{recoveriesBy, chargesBy}
-use Rattle.layer.proofs.Unreached.{layers-unreached, recoveries-unreached, charges-unreached, unreached-from}
-use Rattle.layer.proofs.Unreached.{From, Unreached}
+use Rattle.layer.proofs.Still.{From, Still, still-from, layers-still, recoveries-still, charges-still}
 use Rattle.events.specs.Event.{Event}
 use Rattle.year.specs.declared.Amounts.{Amounts}
 use Rattle.year.specs.Event.{Year, subjectOf, eventAfter, eventAmounts}
@@ -26,22 +25,22 @@ abbrev pub idleOn : (day : ℕ) → Event
 idleOn day = record { day = day; losses = [] }
 
 module _ (ts : List Treaty) (y : Year) (sound : Each Sound (y .cat)) (day : ℕ) where
-  unreached : Unreached (0 ∷ []) (y .cat)
-  unreached = unreached-from (0 ∷ []) 0 (zero-le, tt) (y .cat) (from-zero (y .cat))
+  still : Still (0 ∷ []) (y .cat)
+  still = still-from (0 ∷ []) 0 (zero-le, tt) (y .cat) sound (from-zero (y .cat))
 
   pub year-same : y ≡ eventAfter ts y (idleOn day)
   unfolding subjectOf
   year-same =
-      let cat = sym (layers-unreached (0 ∷ []) (y .cat) sound unreached) in
+      let cat = sym (layers-still (0 ∷ []) (y .cat) sound still) in
       λ i. record { risk = y .risk; cat = cat i }
 
   pub amounts-none : added [] ≡ eventAmounts ts y (idleOn day)
   unfolding subjectOf
   amounts-none =
       let cat : 0 ≡ recoveriesBy 0 (y .cat) =
-      omega (arith, recoveries-unreached (0 ∷ []) (y .cat) sound unreached) in
+      omega (arith, recoveries-still (0 ∷ []) (y .cat) sound still) in
       let charged : 0 ≡ 0 + chargesBy 0 (y .cat) =
-      omega (arith, charges-unreached (0 ∷ []) (y .cat) sound unreached) in
+      omega (arith, charges-still (0 ∷ []) (y .cat) sound still) in
       λ i. record { gross = 0; ceded = 0; risk = 0; cat = cat i; net = 0 - cat i; premium = charged i }
 
 -- nothing more is added

@@ -11,15 +11,15 @@ use Rattle.text.specs.Template.{capital, filled, matched, wholeOf, lineNumbers}
 use Rattle.text.specs.Lines.{linesOf}
 use Rattle.treaty.specs.Treaty.{cededByQuota, cededBySurplus, cededOf, cutToLimit, cededOfLoss}
 use Rattle.treaty.specs.Losses.{cededIn}
-use Rattle.layer.specs.Layer.{placedOf, recoveredOf, premiumOf, recoveryOf, chargeOf}
+use Rattle.layer.specs.Layer.{placedOf, recoveredOf, ratedOf, premiumOf, recoveryOf, chargeOf}
 use Rattle.answer.specs.declared.Answer.{Answer}
 use Rattle.answer.specs.Outcome.{refused, fitted, answerOf, bufferAfter}
 use Rattle.programme.specs.declared.contract.Programme.{Programme}
-use Rattle.programme.specs.Ranges.{outside, treatyOutside, termsOutside, treatyNotZero, termsNotZero}
+use Rattle.programme.specs.Ranges.{outside, treatyOutside, ratesOutside, termsOutside, treatyNotZero, termsNotZero}
 use Rattle.programme.specs.Rules.{treatyFault, layerFault}
 use Rattle.programme.specs.Valid.{validTreaties, validLayers, valid}
 use Rattle.table_text.specs.declared.Reading.{Reading}
-use Rattle.table_text.specs.Forms.{kindOf, formOfKind, formOf, treatyLine}
+use Rattle.table_text.specs.Forms.{kindOf, ratesText, layerNumbers, formOfKind, formOf, treatyLine}
 use Rattle.table_text.specs.Read.{readFrom, readOf}
 use Rattle.table_text.specs.Write.{writeOf}
 use Rattle.events.specs.Event.{closes, lossesUpTo, eventOf}
@@ -45,9 +45,9 @@ record Computed : Type 0 where
   pub not-read : readOf overTheWhole ≡ record { refusal = 3; line = 2; programme = noProgramme }
   pub opened : openOf sidney ≡ record { refusal = 0; number = 0; standing = none }
   pub not-opened : openOf unusedPlace ≡ record { refusal = 6; number = 0; standing = none }
-  pub wrote : answerOf (writeOf sidney 243) ≡ record { refusal = 0; number = 240 }
-  pub wrote-bytes : bufferAfter (writeOf sidney 243) (replicate 243 35) ≡ tableText ++ (35 ∷ 35 ∷ 35 ∷ [])
-  pub not-written : writeOf sidney 239 ≡ refused 7 240
+  pub wrote : answerOf (writeOf sidney 241) ≡ record { refusal = 0; number = 238 }
+  pub wrote-bytes : bufferAfter (writeOf sidney 241) (replicate 241 35) ≡ tableText ++ (35 ∷ 35 ∷ 35 ∷ [])
+  pub not-written : writeOf sidney 237 ≡ refused 7 238
   pub ran : answerOf (runOf sidney none eventsText 444) ≡ record { refusal = 0; number = 443 }
   pub ran-standing : standingAfter (runOf sidney none eventsText 444) none ≡ afterwards
   pub ran-bytes : bufferAfter (runOf sidney none eventsText 444) (replicate 444 35) ≡ statement ++ (35 ∷ [])
@@ -56,11 +56,11 @@ record Computed : Type 0 where
 computed : Computed
 unfolding
     rounded printedBy printed digitOf readOn number capital filled matched wholeOf lineNumbers linesOf
-    cededByQuota cededBySurplus cededOf cutToLimit cededOfLoss placedOf recoveredOf premiumOf recoveryOf
-    chargeOf kindOf formOfKind formOf treatyLine outside treatyOutside termsOutside treatyNotZero termsNotZero
-    treatyFault layerFault readFrom readOf validTreaties validLayers valid closes lossesUpTo eventOf lossOutside
-    eventOutside lacking eventFault eventsOf eventsFrom cededIn subjectOf statementText openOf standingPasses fitted
-    writeOf runFrom runOf
+    cededByQuota cededBySurplus cededOf cutToLimit cededOfLoss placedOf recoveredOf ratedOf premiumOf recoveryOf
+    chargeOf kindOf ratesText layerNumbers formOfKind formOf treatyLine outside treatyOutside ratesOutside
+    termsOutside treatyNotZero termsNotZero treatyFault layerFault readFrom readOf validTreaties validLayers valid
+    closes lossesUpTo eventOf lossOutside eventOutside lacking eventFault eventsOf eventsFrom cededIn subjectOf
+    statementText openOf standingPasses fitted writeOf runFrom runOf
 computed = record {
   read = refl;
   not-read = refl;
@@ -98,9 +98,9 @@ module _ {r : Reading} (a : r ≡ record { refusal = 0; line = 0; programme = si
   programme-is = ap (λ (r : Reading). r .programme) a
 
   -- and written again
-  module _ {d : List ℕ} (e : d ≡ replicate 243 35) where
+  module _ {d : List ℕ} (e : d ≡ replicate 241 35) where
     pub table-answer : {n : Answer} → n ≡ answerOf (writeOf (r .programme) (length d))
-        → n ≡ record { refusal = 0; number = 240 }
+        → n ≡ record { refusal = 0; number = 238 }
     table-answer f = rw (programme-is, e) at f ∙ computed .wrote
 
     pub table-bytes : {d′ : List ℕ} → d′ ≡ bufferAfter (writeOf (r .programme) (length d)) d
@@ -124,8 +124,8 @@ module _ {r : Reading} (a : r ≡ record { refusal = 0; line = 0; programme = si
     run-bytes g = rw (programme-is, standing-is, e, f) at g ∙ computed .ran-bytes
 
 -- a buffer that is one byte short
-module _ {p : Programme} (d : List ℕ) (a : p ≡ sidney) (b : length d ≡ 239) where
-  pub short-answer : {n : Answer} → n ≡ answerOf (writeOf p (length d)) → n ≡ record { refusal = 7; number = 240 }
+module _ {p : Programme} (d : List ℕ) (a : p ≡ sidney) (b : length d ≡ 237) where
+  pub short-answer : {n : Answer} → n ≡ answerOf (writeOf p (length d)) → n ≡ record { refusal = 7; number = 238 }
   short-answer f = rw (a, b, computed .not-written) at f
 
   pub short-bytes : {d′ : List ℕ} → d′ ≡ bufferAfter (writeOf p (length d)) d → d′ ≡ d

@@ -13,9 +13,9 @@ use Rattle.year.specs.declared.Standing.{Standing}
 -- the table text
 abbrev pub tableText : List ℕ
 tableText =
-    bytes "(cat (band 25000000 75000000) (deduct 75000000) (back 0 0 0) (placed 10000))\n"
-    ++ bytes "(cat (band 100000000 150000000) (deduct 0) (back 1 5000 75000000) (placed 8000))\n"
-    ++ bytes "(cat (band 250000000 150000000) (deduct 0) (back 1 10000 30000000) (placed 7200))\n"
+    bytes "(cat (band 25000000 75000000) (deduct 75000000) (back 0 0) (placed 10000))\n"
+    ++ bytes "(cat (band 100000000 150000000) (deduct 0) (back 1 75000000 5000) (placed 8000))\n"
+    ++ bytes "(cat (band 250000000 150000000) (deduct 0) (back 1 30000000 10000) (placed 7200))\n"
 
 -- the events text, and the statement that its run writes
 abbrev pub eventsText : List ℕ
@@ -32,12 +32,17 @@ statement =
 -- another table text, with a share over the whole in the second line
 abbrev pub overTheWhole : List ℕ
 overTheWhole =
-    bytes "(risk (band 1 1) (deduct 0) (back 0 0 0) (placed 10000))\n"
-    ++ bytes "(cat (band 1 1) (deduct 0) (back 0 0 0) (placed 10001))\n"
+    bytes "(risk (band 1 1) (deduct 0) (back 0 0) (placed 10000))\n"
+    ++ bytes "(cat (band 1 1) (deduct 0) (back 0 0) (placed 10001))\n"
 
 -- an unused place holds 0 in each number
 abbrev noTreaty : Treaty
 noTreaty = record { kind = 0; number = 0; cede = 0; capacity = 0; retention = 0; lines = 0; limit = 0 }
+
+-- twenty rates, of which the first alone is other than 0
+abbrev firstRate : ℕ → List ℕ
+firstRate q =
+    q ∷ 0 ∷ 0 ∷ 0 ∷ 0 ∷ 0 ∷ 0 ∷ 0 ∷ 0 ∷ 0 ∷ 0 ∷ 0 ∷ 0 ∷ 0 ∷ 0 ∷ 0 ∷ 0 ∷ 0 ∷ 0 ∷ 0 ∷ []
 
 abbrev noLayer : Terms
 noLayer = record {
@@ -45,9 +50,9 @@ noLayer = record {
   limit = 0;
   deductible = 0;
   reinstatements = 0;
-  rate = 0;
   premium = 0;
   placed = 0;
+  rates = firstRate 0;
 }
 
 -- a kind without contracts, in its eight places
@@ -74,9 +79,9 @@ first = record {
   limit = 75000000;
   deductible = 75000000;
   reinstatements = 0;
-  rate = 0;
   premium = 0;
   placed = 10000;
+  rates = firstRate 0;
 }
 
 abbrev second : Terms
@@ -85,9 +90,9 @@ second = record {
   limit = 150000000;
   deductible = 0;
   reinstatements = 1;
-  rate = 5000;
   premium = 75000000;
   placed = 8000;
+  rates = firstRate 5000;
 }
 
 abbrev third : Terms
@@ -96,9 +101,9 @@ third = record {
   limit = 150000000;
   deductible = 0;
   reinstatements = 1;
-  rate = 10000;
   premium = 30000000;
   placed = 7200;
+  rates = firstRate 10000;
 }
 
 -- the first n of the three places used

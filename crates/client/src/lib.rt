@@ -81,8 +81,8 @@ pub fn run_refused(
 
 // The table read and written again, into a buffer with three bytes more.
 pub fn write_sidney(table: &[u8], buffer: &mut [u8]) -> Answer
-    requires { ⌜ (now table ≡ tableText) × (now buffer ≡ replicate 243 35) ⌝ }
-    ensures { λ r. ⌜ (r ≡ record { refusal = 0; number = 240 })
+    requires { ⌜ (now table ≡ tableText) × (now buffer ≡ replicate 241 35) ⌝ }
+    ensures { λ r. ⌜ (r ≡ record { refusal = 0; number = 238 })
         × (now (buffer .exit) ≡ tableText ++ (35 ∷ 35 ∷ 35 ∷ [])) ⌝ }
 {
     let reading = read_sidney(table);
@@ -91,8 +91,8 @@ pub fn write_sidney(table: &[u8], buffer: &mut [u8]) -> Answer
 
 // A buffer that is one byte short: 7 and the length needed, and the buffer as lent.
 pub fn write_refused(programme: Programme, buffer: &mut [u8]) -> Answer
-    requires { ⌜ (programme ≡ sidney) × (length (now buffer) ≡ 239) ⌝ }
-    ensures { λ r. ⌜ (r ≡ record { refusal = 7; number = 240 }) × (now (buffer .exit) ≡ now (buffer .entry)) ⌝ }
+    requires { ⌜ (programme ≡ sidney) × (length (now buffer) ≡ 237) ⌝ }
+    ensures { λ r. ⌜ (r ≡ record { refusal = 7; number = 238 }) × (now (buffer .exit) ≡ now (buffer .entry)) ⌝ }
 {
     cession::cession_write(programme, buffer)
 }

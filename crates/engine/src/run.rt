@@ -286,8 +286,10 @@ pub fn run(programme: Programme, standing: Standing, events: &[u8], buffer: &mut
         return refused(rule::EVENTS_TOO_LONG, 0, standing);
     }
     let register = treaties::register_of(programme.treaties);
-    let risk = terms::laid_out(programme.risk);
-    let cat = terms::laid_out(programme.cat);
+    let mut risk = [0u64; terms::NUMBERS];
+    let mut cat = [0u64; terms::NUMBERS];
+    terms::lay_out(programme.risk, &mut risk);
+    terms::lay_out(programme.cat, &mut cat);
     let risk_end = numbers::WIDTH * programme.risk.count;
     let cat_end = numbers::WIDTH * programme.cat.count;
     placed(

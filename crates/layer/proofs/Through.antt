@@ -82,24 +82,27 @@ module _ (xs : List ℕ) (y : Layer) (s : Sound y) where
       })
       ∙ ap (λ (n : ℕ). borneSince y t (layerAfter n y)) (sum-map (λ (n : ℕ). n) (broughtBy (y .terms)) xs)
 
-  -- where the amounts bring nothing, the record stays, and nothing is recovered or charged
-  module _ (nothing : sumOf (broughtBy (y .terms)) xs ≡ 0) where
-    none-lost : total (lossesOf xs y) ≡ 0
-    none-lost = sum-map (λ (n : ℕ). n) (broughtBy (y .terms)) xs ∙ nothing
+  -- where the amounts bring nothing, or nothing is left under the cap, the record stays
+  pub after-nothing : sumOf (broughtBy (y .terms)) xs ≡ 0 → afterEach xs y ≡ y
+  after-nothing nothing =
+      let none-lost = sum-map (λ (n : ℕ). n) (broughtBy (y .terms)) xs ∙ nothing in
+      after-at-once xs y (s .spent) ∙ ap (layerOf (y .terms)) (omega (arith, none-lost, s .spent))
 
+  pub after-cap : capOf (y .terms) ≤ y .spent .0 → afterEach xs y ≡ y
+  after-cap full = after-at-once xs y (s .spent) ∙ ap (layerOf (y .terms)) (omega (arith, s .spent))
+
+  -- where it stays, nothing is recovered or charged
+  module _ (still : afterEach xs y ≡ y) where
     spent-same : cutAtCap (y .terms) (y .spent .0 + total (lossesOf xs y)) ≡ y .spent .0
-    spent-same = omega (arith, none-lost, s .spent)
+    spent-same = ap (λ (z : Layer). z .spent .0) (sym (after-at-once xs y (s .spent)) ∙ still)
 
-    pub after-nothing : afterEach xs y ≡ y
-    after-nothing = after-at-once xs y (s .spent) ∙ ap (layerOf (y .terms)) spent-same
-
-    pub recovered-nothing : recoveredEach xs y ≡ 0
-    recovered-nothing =
+    pub recovered-still : recoveredEach xs y ≡ 0
+    recovered-still =
         let e = rw spent-same at (recoveries-telescope y (s .spent) (lossesOf xs y)) in
         omega (arith, e)
 
-    pub charged-nothing : chargedEach xs y ≡ 0
-    charged-nothing =
+    pub charged-still : chargedEach xs y ≡ 0
+    charged-still =
         let e = rw spent-same at (charges-telescope y (s .spent) (lossesOf xs y) (s .terms .limit-low)) in
         omega (arith, e)
 

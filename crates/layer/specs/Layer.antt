@@ -1,23 +1,29 @@
--- Document 01, Layers: a layer's figures from its terms t and its spent amount m, and its record through losses.
+-- Document 01, Layers, with document 02's Q-2: a layer's figures from its terms t and its spent amount m, and its
+-- record through losses.
 -- Assumes nothing.
-use mathlib.Core.List.{List, [], _∷_}
+use mathlib.Core.List.{List, [], _∷_, _++_}
 use Prim.Native.Nat.{ℕ, _+_, _-_, _*_, min, max}
+use lib.ListN.{take, replicate}
 use Rattle.arith.specs.Round.{rounded}
 use Rattle.layer.specs.declared.terms.Terms.{Terms}
 use Rattle.layer.specs.declared.record.Layer.{Layer}
 use Rattle.layer.specs.declared.record.Sums.{Sums}
 use Rattle.layer.specs.declared.record.Borne.{Borne}
 
--- terms in the order of a table's line: (band A L) (deduct D) (back K Q P) (placed S)
-abbrev pub termsOf : (a l d k q p s : ℕ) → Terms
-termsOf a l d k q p s = record {
+-- "The layer record takes up to 20 rates"; "An unused rate is 0": rates in the first of twenty places
+abbrev pub ratePlaces : List ℕ → List ℕ
+ratePlaces qs = take 20 (qs ++ replicate 20 0)
+
+-- terms in the order of a table's line: (band A L) (deduct D) (back K P Q1 .. QK) (placed S)
+abbrev pub termsOf : (a l d k p : ℕ) → List ℕ → (s : ℕ) → Terms
+termsOf a l d k p qs s = record {
   attachment = a;
   limit = l;
   deductible = d;
   reinstatements = k;
-  rate = q;
   premium = p;
   placed = s;
+  rates = ratePlaces qs;
 }
 
 -- the loss that a subject amount x brings: x − a, not below 0 and not above l
@@ -52,13 +58,26 @@ placedOf t a = rounded (a * t .placed) 10000
 unfoldable pub recoveredOf : Terms → ℕ → ℕ
 recoveredOf t m = placedOf t (usedOf t m)
 
--- what is reinstated: the smaller of used and k × l
-abbrev pub reinstatedOf : Terms → ℕ → ℕ
-reinstatedOf t m = min (usedOf t m) (t .reinstatements * t .limit)
+-- "Slice i is what the layer has recovered with used cut at i limits less the same at i − 1 limits": what it has
+-- recovered so, and the slice after i others
+abbrev pub recoveredTo : Terms → (used i : ℕ) → ℕ
+recoveredTo t u i = placedOf t (min u (i * t .limit))
 
--- reinstatement premium: B × q × p / (10,000 × l), where B is what is reinstated, at the placed share
+abbrev pub sliceAfter : Terms → (used i : ℕ) → ℕ
+sliceAfter t u i = recoveredTo t u (i + 1) - recoveredTo t u i
+
+-- "the sum of slice × rate": of the slices after i others, each at its own rate
+abbrev pub ratedFrom : Terms → (used i : ℕ) → List ℕ → ℕ
+ratedFrom t u i [] = 0
+ratedFrom t u i (q ∷ qs) = sliceAfter t u i * q + ratedFrom t u (i + 1) qs
+
+-- "over slices 1 to K"
+unfoldable pub ratedOf : Terms → (used : ℕ) → ℕ
+ratedOf t u = ratedFrom t u 0 (take (t .reinstatements) (t .rates))
+
+-- "Year premium is the sum .. times P, over 10,000 × limit", rounded once
 unfoldable pub premiumOf : Terms → ℕ → ℕ
-premiumOf t m = rounded (placedOf t (reinstatedOf t m) * t .rate * t .premium) (10000 * t .limit)
+premiumOf t m = rounded (ratedOf t (usedOf t m) * t .premium) (10000 * t .limit)
 
 -- the record of terms t and spent amount m
 abbrev pub layerOf : Terms → ℕ → Layer

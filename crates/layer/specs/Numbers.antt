@@ -1,21 +1,24 @@
--- Document 01, The table text: a tier's terms as numbers, those of one layer in the order of its line, one layer's
--- after another's.
+-- Document 01, The table text, with document 02's Q-2: a tier's terms as numbers, one layer's after another's. A
+-- layer's rates stand after its other terms.
 -- Assumes nothing.
 use mathlib.Core.List.{List, [], _∷_, _++_, map}
 use Prim.Native.Nat.{ℕ, _/_}
-use lib.ListN.{length, getD}
+use lib.ListN.{length, take, drop, getD}
 use Rattle.lists.specs.Rows.{rows}
 use Rattle.layer.specs.declared.terms.Terms.{Terms}
 use Rattle.layer.specs.Layer.{termsOf}
 
 -- how many numbers a layer's terms have
 abbrev pub termsWidth : ℕ
-termsWidth = 7
+termsWidth = 26
 
--- a layer's terms as numbers
+-- a layer's terms but for its rates, as numbers
+abbrev pub plainNumbers : Terms → List ℕ
+plainNumbers t = t .attachment ∷ t .limit ∷ t .deductible ∷ t .reinstatements ∷ t .premium ∷ t .placed ∷ []
+
+-- all of them
 abbrev pub termsNumbers : Terms → List ℕ
-termsNumbers t =
-    t .attachment ∷ t .limit ∷ t .deductible ∷ t .reinstatements ∷ t .rate ∷ t .premium ∷ t .placed ∷ []
+termsNumbers t = plainNumbers t ++ t .rates
 
 -- a tier's, one layer's after another's
 abbrev pub tierNumbers : List Terms → List ℕ
@@ -25,7 +28,7 @@ tierNumbers (t ∷ ts) = termsNumbers t ++ tierNumbers ts
 -- a layer's numbers as terms
 abbrev pub termsFrom : List ℕ → Terms
 termsFrom ns =
-    termsOf (getD ns 0 0) (getD ns 1 0) (getD ns 2 0) (getD ns 3 0) (getD ns 4 0) (getD ns 5 0) (getD ns 6 0)
+    termsOf (getD ns 0 0) (getD ns 1 0) (getD ns 2 0) (getD ns 3 0) (getD ns 4 0) (take 20 (drop 6 ns)) (getD ns 5 0)
 
 -- a tier's
 unfoldable pub tierFrom : List ℕ → List Terms

@@ -1,31 +1,47 @@
-// A tier's terms as numbers in a lent slice: those of one layer in the order of its line, one layer's after another's.
-// No other file knows where a number stands.
+// A tier's terms as numbers in a lent slice, one layer's after another's. No other file knows where a number stands.
 ghost use mathlib.Core.List.{[]};
 ghost use mathlib.Core.Path.{_≡_};
 ghost use Prim.Native.Nat.{_<_};
-ghost use lib.ListN.{length, getD};
+ghost use lib.ListN.{length, take, drop, getD};
 ghost use Rattle.layer.specs.Layer.{layerOf};
-ghost use Rattle.layer.specs.Numbers.{termsWidth, termsFrom, tierFrom, termsNumbers};
+ghost use Rattle.layer.specs.Numbers.{termsWidth, plainNumbers, termsFrom, tierFrom};
 use crate::amount::Whole;
 use crate::record::Layer;
+use crate::terms::RATES;
 use crate::terms::Terms;
 
-// How many numbers a layer's terms have.
-pub const WIDTH: usize = 7;
+// How many numbers a layer's terms have, the rates with them.
+pub const WIDTH: usize = PLAIN + RATES;
 
-// The terms of one layer as numbers.
-pub fn numbers_of(terms: Terms) -> [u64; WIDTH]
-    ensures { λ r. ⌜ r ≡ termsNumbers terms ⌝ }
+// And without them.
+const PLAIN: usize = 6;
+
+// The terms of one layer but for its rates, as numbers; the rates stand after them.
+pub fn plain_of(terms: Terms) -> [u64; PLAIN]
+    ensures { λ r. ⌜ r ≡ plainNumbers terms ⌝ }
 {
     [
         terms.attachment,
         terms.limit,
         terms.deductible,
         terms.reinstatements,
-        terms.rate,
         terms.premium,
         terms.placed,
     ]
+}
+
+// The rates among one layer's numbers.
+fn rates_of(own: &[u64]) -> [u64; RATES]
+    requires { ⌜ length (now own) ≡ termsWidth ⌝ }
+    ensures { λ r. ⌜ r ≡ take 20 (drop 6 (now (own .entry))) ⌝ }
+{
+    let mut rates = [0u64; RATES];
+    let mut i: usize = 0;
+    while i < RATES {
+        rates[i] = own[PLAIN + i];
+        i += 1;
+    }
+    rates
 }
 
 // One layer's numbers as terms.
@@ -38,9 +54,9 @@ fn terms_of(own: &[u64]) -> Terms
         limit: own[1],
         deductible: own[2],
         reinstatements: own[3],
-        rate: own[4],
-        premium: own[5],
-        placed: own[6],
+        premium: own[4],
+        placed: own[5],
+        rates: rates_of(own),
     }
 }
 

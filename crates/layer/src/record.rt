@@ -1,7 +1,7 @@
 // A layer's record: it takes losses and gives back the record after them.
 ghost use mathlib.Core.Path.{_≡_};
 ghost use Prim.Native.Nat.{_≤_};
-ghost use Rattle.layer.specs.Layer.{deductibleLeftOf, coverLeftOf, usedOf, reinstatedOf, recoveredOf, premiumOf};
+ghost use Rattle.layer.specs.Layer.{deductibleLeftOf, coverLeftOf, usedOf, recoveredOf, premiumOf};
 ghost use Rattle.lists.specs.Sums.{sumOf};
 ghost use Rattle.layer.specs.Layer.{broughtBy, layerAfter, recoveredSince, chargedSince};
 ghost use Rattle.layer.specs.Layer.{borneSince, borneBy, borneThrough};
@@ -68,27 +68,12 @@ impl Layer {
         self.terms.placed_share(self.used())
     }
 
-    // The used amount as far as there are reinstatements for it.
-    pub fn reinstated(self) -> Whole
-        requires { ⌜ Sound self ⌝ }
-        ensures { λ r. ⌜ r .0 ≡ reinstatedOf (self .terms) (self .spent .0) ⌝ }
-    {
-        self.used()
-            .at_most(Whole::new(self.terms.reinstatements * self.terms.limit))
-    }
-
     // The reinstatement premium of the year.
     pub fn premium(self) -> Placed
         requires { ⌜ Sound self ⌝ }
         ensures { λ r. ⌜ r .0 ≡ premiumOf (self .terms) (self .spent .0) ⌝ }
     {
-        let terms = self.terms;
-        let base = terms.placed_share(self.reinstated());
-        base.premium(
-            terms.rate,
-            Whole::new(terms.premium),
-            Whole::new(terms.limit),
-        )
+        self.terms.premium_for(self.used())
     }
 
     // What has been recovered since an earlier record of the year: one loss's recovery, from the record before it.
@@ -101,10 +86,10 @@ impl Layer {
 
     // The premium charged since an earlier record of the year.
     pub fn premium_since(self, before: Layer) -> Placed
-        requires { ⌜ Sound self × Sound before ⌝ }
+        requires { ⌜ Sound self × Sound before × (self .terms ≡ before .terms) ⌝ }
         ensures { λ r. ⌜ r .0 ≡ chargedSince before self ⌝ }
     {
-        self.premium().less(before.premium())
+        self.terms.premium_between(before.used(), self.used())
     }
 
     // The record after the losses that amounts bring, each in turn. At the cap it stays.
@@ -124,16 +109,13 @@ impl Layer {
     }
 
     // The record, and the sums with what it has come to recover and to charge since an earlier record of the year.
-    // Where nothing more is spent, both stay as they were.
+    // Where nothing more is spent, the sums stay as they were.
     fn borne_since(self, before: Layer, sums: Sums) -> Borne
         requires { ⌜ Sound self × Sound before × Room sums × (self .terms ≡ before .terms) ⌝ }
         ensures { λ r. ⌜ r ≡ borneSince before sums self ⌝ }
     {
         if self.spent.cents() == before.spent.cents() {
-            return Borne {
-                layer: before,
-                sums,
-            };
+            return Borne { layer: self, sums };
         }
         let recovery = self.recovery_since(before);
         let premium = self.premium_since(before);

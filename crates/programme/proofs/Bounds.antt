@@ -7,11 +7,14 @@ use Prim.Native.Nat.{ℕ, _+_, _*_, _^_, _≤_, _<_}
 use native.Mathlib.Omega.{arith}
 use borrow.Author.Tests.{eq-eqb, ne-eqb, le-leb, lt-leb, leb-true, eqb-true}
 use lib.Dec.{leb, eqb}
+use lib.ListN.{take}
 use Rattle.treaty.specs.declared.Treaty.{Treaty}
 use Rattle.treaty.specs.Ranges.{TermsInRange}
 use Rattle.layer.specs.declared.terms.Terms.{Terms}
+use Rattle.layer.specs.Layer.{ratePlaces}
 use Rattle.layer.specs.Ranges.{InRange}
 use Rattle.programme.specs.Ranges.{outside, quotaOutside, surplusOutside, treatyOutside, termsOutside}
+use Rattle.programme.proofs.Rates.{rates-small, rates-places, rates-refilled}
 
 module _ (low high n : ℕ) where
   pub is-below : n < low → 1 ≡ outside low high n
@@ -58,10 +61,16 @@ terms-in-range l e = record {
   limit-high = within 1 (10 ^ 13) (l .limit) (omega arith) .1;
   deductible = within 0 (10 ^ 15) (l .deductible) (omega arith) .1;
   reinstatements = within 0 20 (l .reinstatements) (omega arith) .1;
-  rate = within 0 20000 (l .rate) (omega arith) .1;
   premium = within 0 (10 ^ 12) (l .premium) (omega arith) .1;
   placed = within 0 10000 (l .placed) (omega arith) .1;
+  rates = rates-small (l .reinstatements) (l .rates) (omega arith);
+  places = rates-places (l .reinstatements) (l .rates) (omega arith);
 }
+
+-- its rates are those in use, with zeros after them
+pub rates-back : (l : Terms) → termsOutside l ≡ 0 → ratePlaces (take (l .reinstatements) (l .rates)) ≡ l .rates
+unfolding termsOutside
+rates-back l e = rates-refilled (l .reinstatements) (l .rates) (omega arith)
 
 -- the end of a band is far below a word's limit
 pub band-end : (l : Terms) → termsOutside l ≡ 0 → l .attachment + l .limit ≤ 2 * 10 ^ 13

@@ -3,7 +3,7 @@
 -- Assumes nothing.
 use mathlib.Core.Path.{_≡_, refl}
 use mathlib.Core.Bool.{true, false}
-use mathlib.Core.List.{List, [], _∷_, map}
+use mathlib.Core.List.{List, [], _∷_, _++_, map}
 use Prim.Native.Nat.{ℕ}
 use lib.ListN.{replicate, take}
 use Rattle.treaty.specs.declared.Treaty.{Treaty}
@@ -11,9 +11,12 @@ use Rattle.treaty.specs.Treaty.{quotaOf, surplusOf}
 use Rattle.layer.specs.declared.terms.Terms.{Terms}
 use Rattle.layer.specs.Layer.{termsOf}
 use Rattle.programme.specs.declared.contract.Programme.{Programme}
-use Rattle.programme.specs.declared.contract.Contract.the-variants.{Proportional, Risk, Cat}
-use Rattle.programme.specs.Contracts.{Contracts, noContracts, withContract, inOrder, programmeOf, contractsIn}
-use Rattle.programme.specs.Ranges.{outside, treatyOutside, termsOutside, treatyNotZero, termsNotZero}
+use Rattle.programme.specs.declared.contract.Kind.{Kind}
+use Rattle.programme.specs.declared.contract.Kind.the-variants as kind
+use Rattle.programme.specs.Contracts.{Contract, Proportional, Risk, Cat, contractOf, Contracts, noContracts}
+use Rattle.programme.specs.Contracts.{withContract, inOrder, programmeOf, contractsIn}
+use Rattle.programme.specs.Ranges.{outside, treatyOutside, ratesOutside, termsOutside}
+use Rattle.programme.specs.Ranges.{treatyNotZero, termsNotZero}
 use Rattle.programme.specs.Rules.{treatyFault, layerFault, faultOf}
 use Rattle.programme.specs.Valid.{validTreaties, validLayers, valid}
 
@@ -25,19 +28,31 @@ treaty k t c a r n l =
 abbrev zeroTreaty : Treaty
 zeroTreaty = treaty 0 0 0 0 0 0 0
 
-abbrev terms : (a l d k q p s : ℕ) → Terms
-terms a l d k q p s = record {
+abbrev terms : (a l d k p s : ℕ) → List ℕ → Terms
+terms a l d k p s qs = record {
   attachment = a;
   limit = l;
   deductible = d;
   reinstatements = k;
-  rate = q;
   premium = p;
   placed = s;
+  rates = qs;
 }
 
+-- twenty rates: none, one, and twenty different ones
+abbrev noRates : List ℕ
+noRates = 0 ∷ 0 ∷ 0 ∷ 0 ∷ 0 ∷ 0 ∷ 0 ∷ 0 ∷ 0 ∷ 0 ∷ 0 ∷ 0 ∷ 0 ∷ 0 ∷ 0 ∷ 0 ∷ 0 ∷ 0 ∷ 0 ∷ 0 ∷ []
+
+abbrev oneRate : List ℕ
+oneRate = 20000 ∷ 0 ∷ 0 ∷ 0 ∷ 0 ∷ 0 ∷ 0 ∷ 0 ∷ 0 ∷ 0 ∷ 0 ∷ 0 ∷ 0 ∷ 0 ∷ 0 ∷ 0 ∷ 0 ∷ 0 ∷ 0 ∷ 0 ∷ []
+
+abbrev twentyRates : List ℕ
+twentyRates =
+    5000 ∷ 1 ∷ 20000 ∷ 7 ∷ 10000 ∷ 3333 ∷ 9999 ∷ 12 ∷ 15000 ∷ 2 ∷ 750 ∷ 19999 ∷ 40 ∷ 6000 ∷ 8 ∷ 2500 ∷ 11111 ∷ 90
+    ∷ 17 ∷ 3 ∷ []
+
 abbrev pub zeroTerms : Terms
-zeroTerms = terms 0 0 0 0 0 0 0
+zeroTerms = terms 0 0 0 0 0 0 noRates
 
 -- the programme without contracts, place by place
 abbrev pub nothingHeld : Programme
@@ -66,12 +81,12 @@ allHeld = record {
     count = 2;
   };
   risk = record {
-    places = terms 50 51 7 1 20000 9 3333 ∷ zeroTerms ∷ zeroTerms ∷ zeroTerms
+    places = terms 50 51 7 1 9 3333 oneRate ∷ zeroTerms ∷ zeroTerms ∷ zeroTerms
         ∷ zeroTerms ∷ zeroTerms ∷ zeroTerms ∷ zeroTerms ∷ [];
     count = 1;
   };
   cat = record {
-    places = terms 40 60 0 20 5000 1000000000000 7200 ∷ zeroTerms ∷ zeroTerms ∷ zeroTerms
+    places = terms 40 60 0 20 1000000000000 7200 twentyRates ∷ zeroTerms ∷ zeroTerms ∷ zeroTerms
         ∷ zeroTerms ∷ zeroTerms ∷ zeroTerms ∷ zeroTerms ∷ [];
     count = 1;
   };
@@ -81,16 +96,16 @@ allHeld = record {
 abbrev pub allContracts : Contracts
 allContracts = record {
   treaties = quotaOf 2 4000 20000 15000 ∷ surplusOf 5 10000 3 0 ∷ [];
-  risk = termsOf 50 51 7 1 20000 9 3333 ∷ [];
-  cat = termsOf 40 60 0 20 5000 1000000000000 7200 ∷ [];
+  risk = termsOf 50 51 7 1 9 (20000 ∷ []) 3333 ∷ [];
+  cat = termsOf 40 60 0 20 1000000000000 twentyRates 7200 ∷ [];
 }
 
 -- eight layers, each at the end of the band before
 abbrev pub eightTerms : List Terms
 eightTerms =
-    termsOf 0 10 0 0 0 0 3333 ∷ termsOf 10 20 0 0 0 0 3333 ∷ termsOf 30 5 0 0 0 0 3333 ∷ termsOf 35 1 0 0 0 0 3333
-    ∷ termsOf 36 4 0 0 0 0 3333 ∷ termsOf 40 2 0 0 0 0 3333 ∷ termsOf 42 8 0 0 0 0 3333
-    ∷ termsOf 50 50 0 0 0 0 3333 ∷ []
+    termsOf 0 10 0 0 0 [] 3333 ∷ termsOf 10 20 0 0 0 [] 3333 ∷ termsOf 30 5 0 0 0 [] 3333 ∷ termsOf 35 1 0 0 0 [] 3333
+    ∷ termsOf 36 4 0 0 0 [] 3333 ∷ termsOf 40 2 0 0 0 [] 3333 ∷ termsOf 42 8 0 0 0 [] 3333
+    ∷ termsOf 50 50 0 0 0 [] 3333 ∷ []
 
 -- a programme that holds nothing but these places of risk layers, n of them used
 abbrev pub withRisk : ℕ → List Terms → Programme
@@ -106,7 +121,7 @@ before ts rs cs = record { treaties = ts; risk = rs; cat = cs }
 
 -- one layer, with the band 50 50
 abbrev oneBand : List Terms
-oneBand = termsOf 50 50 0 0 0 0 3333 ∷ []
+oneBand = termsOf 50 50 0 0 0 [] 3333 ∷ []
 
 -- 0 and 1, 10^13 and one past it: of these an amount from 0 on lacks the last, one from 1 on the first too
 abbrev amounts : List ℕ
@@ -120,13 +135,13 @@ pub record Corners : Type 0 where
   pub contracts : contractsIn allHeld ≡ allContracts
   pub in-order : inOrder allContracts
       ≡ Proportional (quotaOf 2 4000 20000 15000) ∷ Proportional (surplusOf 5 10000 3 0)
-      ∷ Risk (termsOf 50 51 7 1 20000 9 3333) ∷ Cat (termsOf 40 60 0 20 5000 1000000000000 7200) ∷ []
+      ∷ Risk (termsOf 50 51 7 1 9 (20000 ∷ []) 3333) ∷ Cat (termsOf 40 60 0 20 1000000000000 twentyRates 7200) ∷ []
   pub one-by-one : withContract (withContract (withContract allContracts (Proportional (quotaOf 7 1 0 0)))
-      (Risk (termsOf 200 1 0 0 0 0 1))) (Cat (termsOf 300 1 0 0 0 0 2))
+      (Risk (termsOf 200 1 0 0 0 [] 1))) (Cat (termsOf 300 1 0 0 0 [] 2))
       ≡ record {
         treaties = quotaOf 2 4000 20000 15000 ∷ surplusOf 5 10000 3 0 ∷ quotaOf 7 1 0 0 ∷ [];
-        risk = termsOf 50 51 7 1 20000 9 3333 ∷ termsOf 200 1 0 0 0 0 1 ∷ [];
-        cat = termsOf 40 60 0 20 5000 1000000000000 7200 ∷ termsOf 300 1 0 0 0 0 2 ∷ [];
+        risk = termsOf 50 51 7 1 9 (20000 ∷ []) 3333 ∷ termsOf 200 1 0 0 0 [] 1 ∷ [];
+        cat = termsOf 40 60 0 20 1000000000000 twentyRates 7200 ∷ termsOf 300 1 0 0 0 [] 2 ∷ [];
       }
   -- of each number in turn, among others in range: 0 at an end, 1 one past it
   pub quota-number : map (λ (n : ℕ). treatyOutside (quotaOf n 4000 7 9)) (0 ∷ 1 ∷ 8 ∷ 9 ∷ []) ≡ 1 ∷ 0 ∷ 0 ∷ 1 ∷ []
@@ -137,18 +152,32 @@ pub record Corners : Type 0 where
   pub surplus-retention : map (λ (n : ℕ). treatyOutside (surplusOf 3 n 3 9)) amounts ≡ 0 ∷ 0 ∷ 0 ∷ 1 ∷ []
   pub surplus-lines : map (λ (n : ℕ). treatyOutside (surplusOf 3 7 n 9)) (0 ∷ 100 ∷ 101 ∷ []) ≡ 0 ∷ 0 ∷ 1 ∷ []
   pub surplus-limit : map (λ (n : ℕ). treatyOutside (surplusOf 3 7 3 n)) amounts ≡ 0 ∷ 0 ∷ 0 ∷ 1 ∷ []
-  pub layer-attachment : map (λ (n : ℕ). termsOutside (termsOf n 7 9 2 5000 11 7200)) amounts ≡ 0 ∷ 0 ∷ 0 ∷ 1 ∷ []
-  pub layer-limit : map (λ (n : ℕ). termsOutside (termsOf 5 n 9 2 5000 11 7200)) amounts ≡ 1 ∷ 0 ∷ 0 ∷ 1 ∷ []
-  pub layer-deductible : map (λ (n : ℕ). termsOutside (termsOf 5 7 n 2 5000 11 7200))
+  pub layer-attachment : map (λ (n : ℕ). termsOutside (termsOf n 7 9 2 11 (5000 ∷ 13 ∷ []) 7200)) amounts
+      ≡ 0 ∷ 0 ∷ 0 ∷ 1 ∷ []
+  pub layer-limit : map (λ (n : ℕ). termsOutside (termsOf 5 n 9 2 11 (5000 ∷ 13 ∷ []) 7200)) amounts
+      ≡ 1 ∷ 0 ∷ 0 ∷ 1 ∷ []
+  pub layer-deductible : map (λ (n : ℕ). termsOutside (termsOf 5 7 n 2 11 (5000 ∷ 13 ∷ []) 7200))
       (0 ∷ 1000000000000000 ∷ 1000000000000001 ∷ []) ≡ 0 ∷ 0 ∷ 1 ∷ []
-  pub layer-reinstatements : map (λ (n : ℕ). termsOutside (termsOf 5 7 9 n 5000 11 7200)) (0 ∷ 20 ∷ 21 ∷ [])
+  pub layer-reinstatements : map (λ (n : ℕ). termsOutside (termsOf 5 7 9 n 11 [] 7200)) (0 ∷ 20 ∷ 21 ∷ [])
       ≡ 0 ∷ 0 ∷ 1 ∷ []
-  pub layer-rate : map (λ (n : ℕ). termsOutside (termsOf 5 7 9 2 n 11 7200)) (0 ∷ 20000 ∷ 20001 ∷ [])
-      ≡ 0 ∷ 0 ∷ 1 ∷ []
-  pub layer-premium : map (λ (n : ℕ). termsOutside (termsOf 5 7 9 2 5000 n 7200))
+  pub layer-premium : map (λ (n : ℕ). termsOutside (termsOf 5 7 9 2 n (5000 ∷ 13 ∷ []) 7200))
       (0 ∷ 1000000000000 ∷ 1000000000001 ∷ []) ≡ 0 ∷ 0 ∷ 1 ∷ []
-  pub layer-placed : map (λ (n : ℕ). termsOutside (termsOf 5 7 9 2 5000 11 n)) (0 ∷ 10000 ∷ 10001 ∷ [])
+  pub layer-placed : map (λ (n : ℕ). termsOutside (termsOf 5 7 9 2 11 (5000 ∷ 13 ∷ []) n)) (0 ∷ 10000 ∷ 10001 ∷ [])
       ≡ 0 ∷ 0 ∷ 1 ∷ []
+  -- each rate in use, the first, one between and the last; and the first place past them
+  pub layer-rates : map (λ (n : ℕ). termsOutside (termsOf 5 7 9 3 11 (n ∷ 1 ∷ 2 ∷ []) 7200)) (0 ∷ 20000 ∷ 20001 ∷ [])
+      ≡ 0 ∷ 0 ∷ 1 ∷ []
+  pub layer-rate-between : map (λ (n : ℕ). termsOutside (termsOf 5 7 9 3 11 (1 ∷ n ∷ 2 ∷ []) 7200))
+      (0 ∷ 20000 ∷ 20001 ∷ []) ≡ 0 ∷ 0 ∷ 1 ∷ []
+  pub layer-rate-last : map (λ (n : ℕ). termsOutside (termsOf 5 7 9 3 11 (1 ∷ 2 ∷ n ∷ []) 7200))
+      (0 ∷ 20000 ∷ 20001 ∷ []) ≡ 0 ∷ 0 ∷ 1 ∷ []
+  pub layer-rate-past : map (λ (n : ℕ). termsOutside (termsOf 5 7 9 3 11 (1 ∷ 2 ∷ 3 ∷ n ∷ []) 7200)) (0 ∷ 1 ∷ [])
+      ≡ 0 ∷ 1 ∷ []
+  -- all twenty in use, and but the last; one place more or less than twenty
+  pub twenty-rates : map (λ (k : ℕ). termsOutside (terms 5 7 9 k 11 7200 twentyRates)) (20 ∷ 19 ∷ 0 ∷ [])
+      ≡ 0 ∷ 1 ∷ 1 ∷ []
+  pub rates-places : map (λ (qs : List ℕ). termsOutside (terms 5 7 9 1 11 7200 qs))
+      (noRates ∷ (0 ∷ noRates) ∷ take 19 noRates ∷ []) ≡ 0 ∷ 1 ∷ 1 ∷ []
   -- the kinds 1 and 2 alone are treaties; each holds 0 in the terms of the other
   pub kinds : map (λ (k : ℕ). treatyOutside (treaty k 3 0 0 0 0 9)) (0 ∷ 1 ∷ 2 ∷ 3 ∷ []) ≡ 1 ∷ 0 ∷ 0 ∷ 1 ∷ []
   pub not-of-a-quota : map treatyOutside (treaty 1 3 4000 7 1 0 9 ∷ treaty 1 3 4000 7 0 1 9 ∷ []) ≡ 1 ∷ 1 ∷ []
@@ -158,20 +187,26 @@ pub record Corners : Type 0 where
   pub treaty-not-unused : map treatyNotZero
       (treaty 1 0 0 0 0 0 0 ∷ treaty 0 1 0 0 0 0 0 ∷ treaty 0 0 1 0 0 0 0 ∷ treaty 0 0 0 1 0 0 0
       ∷ treaty 0 0 0 0 1 0 0 ∷ treaty 0 0 0 0 0 1 0 ∷ treaty 0 0 0 0 0 0 1 ∷ []) ≡ replicate 7 1
-  pub terms-unused : termsNotZero (termsOf 0 0 0 0 0 0 0) ≡ 0
+  pub terms-unused : termsNotZero zeroTerms ≡ 0
   pub terms-not-unused : map termsNotZero
-      (termsOf 1 0 0 0 0 0 0 ∷ termsOf 0 1 0 0 0 0 0 ∷ termsOf 0 0 1 0 0 0 0 ∷ termsOf 0 0 0 1 0 0 0
-      ∷ termsOf 0 0 0 0 1 0 0 ∷ termsOf 0 0 0 0 0 1 0 ∷ termsOf 0 0 0 0 0 0 1 ∷ []) ≡ replicate 7 1
+      (terms 1 0 0 0 0 0 noRates ∷ terms 0 1 0 0 0 0 noRates ∷ terms 0 0 1 0 0 0 noRates ∷ terms 0 0 0 1 0 0 noRates
+      ∷ terms 0 0 0 0 1 0 noRates ∷ terms 0 0 0 0 0 1 noRates ∷ terms 0 0 0 0 0 0 oneRate
+      ∷ terms 0 0 0 0 0 0 (take 19 noRates ++ (1 ∷ [])) ∷ terms 0 0 0 0 0 0 (take 19 noRates) ∷ []) ≡ replicate 9 1
+  -- a contract by its kind, with terms beside it
+  pub kinds-of : map (λ (k : Kind). contractOf k (termsOf 7 1 2 1 3 (4 ∷ []) 5))
+      (kind.Proportional (quotaOf 1 4000 0 0) ∷ kind.Risk ∷ kind.Cat ∷ [])
+      ≡ Proportional (quotaOf 1 4000 0 0) ∷ Risk (termsOf 7 1 2 1 3 (4 ∷ []) 5) ∷ Cat (termsOf 7 1 2 1 3 (4 ∷ []) 5)
+      ∷ []
   -- 4: a treaty of either kind after a risk layer, and after a cat layer
   pub treaties-after-risk : map (faultOf (before [] oneBand []))
       (Proportional (quotaOf 1 4000 0 0) ∷ Proportional (surplusOf 1 10000 3 0) ∷ []) ≡ 4 ∷ 4 ∷ []
   pub treaties-after-cat : map (faultOf (before [] [] oneBand))
       (Proportional (quotaOf 1 4000 0 0) ∷ Proportional (surplusOf 1 10000 3 0) ∷ []) ≡ 4 ∷ 4 ∷ []
   -- a risk layer after a cat layer; a layer of either tier after a treaty and a cat layer after a risk layer are fine
-  pub risk-after-cat : faultOf (before [] [] oneBand) (Risk (termsOf 100 1 0 0 0 0 0)) ≡ 4
+  pub risk-after-cat : faultOf (before [] [] oneBand) (Risk (termsOf 100 1 0 0 0 [] 0)) ≡ 4
   pub layers-after-treaty : map (faultOf (before (quotaOf 8 4000 0 0 ∷ []) [] []))
-      (Risk (termsOf 0 1 0 0 0 0 0) ∷ Cat (termsOf 0 1 0 0 0 0 0) ∷ []) ≡ 0 ∷ 0 ∷ []
-  pub cat-after-risk : faultOf (before [] oneBand []) (Cat (termsOf 99 1 0 0 0 0 0)) ≡ 0
+      (Risk (termsOf 0 1 0 0 0 [] 0) ∷ Cat (termsOf 0 1 0 0 0 [] 0) ∷ []) ≡ 0 ∷ 0 ∷ []
+  pub cat-after-risk : faultOf (before [] oneBand []) (Cat (termsOf 99 1 0 0 0 [] 0)) ≡ 0
   -- T below, at and above the one before, over both kinds
   pub rising-after-quota : map (faultOf (before (quotaOf 3 4000 0 0 ∷ []) [] []))
       (Proportional (surplusOf 2 7 3 9) ∷ Proportional (surplusOf 3 7 3 9) ∷ Proportional (surplusOf 4 7 3 9) ∷ [])
@@ -180,21 +215,21 @@ pub record Corners : Type 0 where
       (Proportional (quotaOf 4 4000 0 0) ∷ Proportional (quotaOf 5 4000 0 0) ∷ Proportional (quotaOf 6 4000 0 0) ∷ [])
       ≡ 4 ∷ 4 ∷ 0 ∷ []
   -- 5: an attachment at the end of the band before, and a cent below it
-  pub risk-bands : map (λ (n : ℕ). faultOf (before [] oneBand []) (Risk (termsOf n 1 0 0 0 0 0))) (100 ∷ 99 ∷ [])
+  pub risk-bands : map (λ (n : ℕ). faultOf (before [] oneBand []) (Risk (termsOf n 1 0 0 0 [] 0))) (100 ∷ 99 ∷ [])
       ≡ 0 ∷ 5 ∷ []
-  pub cat-bands : map (λ (n : ℕ). faultOf (before [] [] oneBand) (Cat (termsOf n 1 0 0 0 0 0))) (100 ∷ 99 ∷ [])
+  pub cat-bands : map (λ (n : ℕ). faultOf (before [] [] oneBand) (Cat (termsOf n 1 0 0 0 [] 0))) (100 ∷ 99 ∷ [])
       ≡ 0 ∷ 5 ∷ []
   -- an eighth layer is fine, a ninth is 4, also below the end of the band before, and 3 with a limit of 0
-  pub eighth-risk : faultOf (before [] (take 7 eightTerms) []) (Risk (termsOf 50 1 0 0 0 0 0)) ≡ 0
-  pub eighth-cat : faultOf (before [] [] (take 7 eightTerms)) (Cat (termsOf 50 1 0 0 0 0 0)) ≡ 0
+  pub eighth-risk : faultOf (before [] (take 7 eightTerms) []) (Risk (termsOf 50 1 0 0 0 [] 0)) ≡ 0
+  pub eighth-cat : faultOf (before [] [] (take 7 eightTerms)) (Cat (termsOf 50 1 0 0 0 [] 0)) ≡ 0
   pub ninth-risk : map (faultOf (before [] eightTerms []))
-      (Risk (termsOf 100 1 0 0 0 0 0) ∷ Risk (termsOf 99 1 0 0 0 0 0) ∷ Risk (termsOf 99 0 0 0 0 0 0) ∷ [])
+      (Risk (termsOf 100 1 0 0 0 [] 0) ∷ Risk (termsOf 99 1 0 0 0 [] 0) ∷ Risk (termsOf 99 0 0 0 0 [] 0) ∷ [])
       ≡ 4 ∷ 4 ∷ 3 ∷ []
   pub ninth-cat : map (faultOf (before [] [] eightTerms))
-      (Cat (termsOf 100 1 0 0 0 0 0) ∷ Cat (termsOf 99 1 0 0 0 0 0) ∷ Cat (termsOf 99 0 0 0 0 0 0) ∷ [])
+      (Cat (termsOf 100 1 0 0 0 [] 0) ∷ Cat (termsOf 99 1 0 0 0 [] 0) ∷ Cat (termsOf 99 0 0 0 0 [] 0) ∷ [])
       ≡ 4 ∷ 4 ∷ 3 ∷ []
   -- a first cat layer after eight risk layers is none of theirs
-  pub first-cat : faultOf (before [] eightTerms []) (Cat (termsOf 0 1 0 0 0 0 0)) ≡ 0
+  pub first-cat : faultOf (before [] eightTerms []) (Cat (termsOf 0 1 0 0 0 [] 0)) ≡ 0
   -- validity: a programme of every form, and the same with a used place taken for an unused one
   pub all-valid : valid allHeld ≡ true
   pub treaty-past-the-count : valid (record {
@@ -210,10 +245,10 @@ pub record Corners : Type 0 where
   })
       ≡ false
   -- bands of the cat layers that touch, and that overlap by a cent; two treaties with one T
-  pub cat-touching : valid (programmeOf (before [] [] (termsOf 50 50 0 0 0 0 7200 ∷ termsOf 100 1 0 0 0 0 7200 ∷ [])))
+  pub cat-touching : valid (programmeOf (before [] [] (termsOf 50 50 0 0 0 [] 7200 ∷ termsOf 100 1 0 0 0 [] 7200 ∷ [])))
       ≡ true
   pub cat-overlapping :
-      valid (programmeOf (before [] [] (termsOf 50 50 0 0 0 0 7200 ∷ termsOf 99 1 0 0 0 0 7200 ∷ []))) ≡ false
+      valid (programmeOf (before [] [] (termsOf 50 50 0 0 0 [] 7200 ∷ termsOf 99 1 0 0 0 [] 7200 ∷ []))) ≡ false
   pub one-number : valid (programmeOf (before (quotaOf 3 4000 0 0 ∷ surplusOf 3 10000 3 0 ∷ []) [] [])) ≡ false
   -- eight layers of a tier, and a count of nine
   pub eight-used : valid (withRisk 8 eightTerms) ≡ true
@@ -226,8 +261,8 @@ pub record Corners : Type 0 where
       ≡ false
 
 pub corners : Corners
-unfolding outside treatyOutside termsOutside treatyNotZero termsNotZero treatyFault layerFault validTreaties
-    validLayers valid
+unfolding outside treatyOutside ratesOutside termsOutside treatyNotZero termsNotZero treatyFault layerFault
+    validTreaties validLayers valid
 corners = record {
   places-none = refl;
   places = refl;
@@ -247,9 +282,14 @@ corners = record {
   layer-limit = refl;
   layer-deductible = refl;
   layer-reinstatements = refl;
-  layer-rate = refl;
   layer-premium = refl;
   layer-placed = refl;
+  layer-rates = refl;
+  layer-rate-between = refl;
+  layer-rate-last = refl;
+  layer-rate-past = refl;
+  twenty-rates = refl;
+  rates-places = refl;
   kinds = refl;
   not-of-a-quota = refl;
   not-of-a-surplus = refl;
@@ -257,6 +297,7 @@ corners = record {
   treaty-not-unused = refl;
   terms-unused = refl;
   terms-not-unused = refl;
+  kinds-of = refl;
   treaties-after-risk = refl;
   treaties-after-cat = refl;
   risk-after-cat = refl;

@@ -9,10 +9,11 @@ use borrow.Author.Tests.{lt-ltb, le-ltb, le-leb, lt-leb}
 use Rattle.lists.proofs.Cases.{by-lt}
 use Rattle.treaty.specs.declared.Treaty.{Treaty}
 use Rattle.layer.specs.declared.terms.Terms.{Terms}
-use Rattle.programme.specs.declared.contract.Contract.{Contract}
-use Rattle.programme.specs.declared.contract.Contract.the-variants.{Proportional, Risk, Cat}
+use Rattle.programme.specs.declared.contract.Kind.{Kind}
+use Rattle.programme.specs.declared.contract.Kind.the-variants.{Proportional, Risk, Cat}
 use Rattle.programme.specs.declared.rule.Last.{Last}
 use Rattle.programme.specs.declared.rule.Before.{Before}
+use Rattle.programme.specs.Contracts.{contractOf}
 use Rattle.programme.specs.Ranges.{treatyOutside, termsOutside}
 use Rattle.programme.specs.Rules.{treatyFault, layerFault, faultAfter}
 use Rattle.programme.specs.LineByLine.{nextOf, beforeNext}
@@ -62,16 +63,16 @@ module _ (later : ℕ) (before : Last) (l : Terms) (n : ℕ) (e : n ≡ termsOut
         layer-fine h = rw (← e) (simp (le-ltb _ _ z, le-ltb _ _ o, lt-leb _ _ f, le-ltb _ _ h))
 
 -- the fault of a contract, by its kind
-module _ (p : Before) (x : Contract) (r : ℕ) where
+module _ (p : Before) (x : Kind) (l : Terms) (r : ℕ) where
   pub treaty-faults : (t : Treaty) → x ≡ Proportional t
-      → r ≡ treatyFault (p .risk .count + p .cat .count) (p .treaties .figure) t → r ≡ faultAfter p x
+      → r ≡ treatyFault (p .risk .count + p .cat .count) (p .treaties .figure) t → r ≡ faultAfter p (contractOf x l)
   treaty-faults t e h = rw e h
 
-  pub risk-faults : (l : Terms) → x ≡ Risk l → r ≡ layerFault (p .cat .count) (p .risk) l → r ≡ faultAfter p x
-  risk-faults l e h = rw e h
+  pub risk-faults : x ≡ Risk → r ≡ layerFault (p .cat .count) (p .risk) l → r ≡ faultAfter p (contractOf x l)
+  risk-faults e h = rw e h
 
-  pub cat-faults : (l : Terms) → x ≡ Cat l → r ≡ layerFault 0 (p .cat) l → r ≡ faultAfter p x
-  cat-faults l e h = rw e h
+  pub cat-faults : x ≡ Cat → r ≡ layerFault 0 (p .cat) l → r ≡ faultAfter p (contractOf x l)
+  cat-faults e h = rw e h
 
 -- what a treaty without fault keeps to
 pub record TreatyFaultless (later before : ℕ) (t : Treaty) : Type 0 where
@@ -111,26 +112,25 @@ layer-faultless later before l z =
     (λ f. absurd (omega (arith, layer-ninth later before l (termsOutside l) refl h k f)))))
 
 -- the end of the band of a layer without fault fits a word, and what stands before the next line
-module _ (p : Before) (x : Contract) (z : faultAfter p x ≡ 0) where
-  band-fits : (later : ℕ) (before : Last) (l : Terms) → layerFault later before l ≡ 0
-      → Fits w64 (l .attachment + l .limit)
-  band-fits later before l f = omega (arith, band-end l (layer-faultless later before l f .inside))
+module _ (p : Before) (x : Kind) (l : Terms) (z : faultAfter p (contractOf x l) ≡ 0) where
+  band-fits : (later : ℕ) (before : Last) → layerFault later before l ≡ 0 → Fits w64 (l .attachment + l .limit)
+  band-fits later before f = omega (arith, band-end l (layer-faultless later before l f .inside))
 
-  pub risk-end : (l : Terms) → x ≡ Risk l → Fits w64 (l .attachment + l .limit)
-  risk-end l e = band-fits (p .cat .count) (p .risk) l (sym (ap (faultAfter p) e) ∙ z)
+  pub risk-end : x ≡ Risk → Fits w64 (l .attachment + l .limit)
+  risk-end e = band-fits (p .cat .count) (p .risk) (rw e at z)
 
-  pub cat-end : (l : Terms) → x ≡ Cat l → Fits w64 (l .attachment + l .limit)
-  cat-end l e = band-fits 0 (p .cat) l (sym (ap (faultAfter p) e) ∙ z)
+  pub cat-end : x ≡ Cat → Fits w64 (l .attachment + l .limit)
+  cat-end e = band-fits 0 (p .cat) (rw e at z)
 
-module _ (p : Before) (x : Contract) (n : Last) where
+module _ (p : Before) (x : Kind) (l : Terms) (n : Last) where
   pub treaty-after : (t : Treaty) → x ≡ Proportional t → n ≡ nextOf (p .treaties) (t .number)
-      → record { treaties = n; risk = p .risk; cat = p .cat } ≡ beforeNext p x
+      → record { treaties = n; risk = p .risk; cat = p .cat } ≡ beforeNext p (contractOf x l)
   treaty-after t e h = rw (e, h)
 
-  pub risk-after : (l : Terms) → x ≡ Risk l → n ≡ nextOf (p .risk) (l .attachment + l .limit)
-      → record { treaties = p .treaties; risk = n; cat = p .cat } ≡ beforeNext p x
-  risk-after l e h = rw (e, h)
+  pub risk-after : x ≡ Risk → n ≡ nextOf (p .risk) (l .attachment + l .limit)
+      → record { treaties = p .treaties; risk = n; cat = p .cat } ≡ beforeNext p (contractOf x l)
+  risk-after e h = rw (e, h)
 
-  pub cat-after : (l : Terms) → x ≡ Cat l → n ≡ nextOf (p .cat) (l .attachment + l .limit)
-      → record { treaties = p .treaties; risk = p .risk; cat = n } ≡ beforeNext p x
-  cat-after l e h = rw (e, h)
+  pub cat-after : x ≡ Cat → n ≡ nextOf (p .cat) (l .attachment + l .limit)
+      → record { treaties = p .treaties; risk = p .risk; cat = n } ≡ beforeNext p (contractOf x l)
+  cat-after e h = rw (e, h)

@@ -20,10 +20,12 @@ use Rattle.programme.specs.declared.contract.Layers.{Layers}
 use Rattle.programme.specs.declared.contract.Programme.{Programme}
 use Rattle.programme.specs.Contracts.{Contracts, noTreaty, noTerms, treatyPlaces, layerPlaces}
 use Rattle.programme.specs.Contracts.{programmeOf, treatiesIn, layersIn, contractsIn}
-use Rattle.programme.specs.Ranges.{outside, treatyOutside, termsOutside, treatyNotZero, termsNotZero}
+use Rattle.programme.specs.Ranges.{outside, treatyOutside, ratesOutside, termsOutside}
+use Rattle.programme.specs.Ranges.{treatyNotZero, termsNotZero}
 use Rattle.programme.specs.Rules.{treatyNumber, bandEnd}
 use Rattle.programme.specs.Valid.{treatyPasses, layerPasses, treatyUnused, termsUnused, eightPlaces}
 use Rattle.programme.specs.Valid.{validTreaties, validLayers, valid}
+use Rattle.programme.proofs.Rates.{rates-refilled}
 use Rattle.programme.proofs.Bounds.{within, treaty-in-range}
 use Rattle.programme.proofs.Places.{places-length}
 use Rattle.programme.proofs.Tests.{treaties-tested, layers-tested}
@@ -99,7 +101,7 @@ unfolding treatyNotZero outside
 no-treaty-unused = refl
 
 no-terms-unused : termsUnused noTerms ≡ true
-unfolding termsNotZero outside
+unfolding termsNotZero outside ratesOutside
 no-terms-unused = refl
 
 nought : (n : ℕ) → outside 0 0 n ≡ 0 → n ≡ 0
@@ -128,9 +130,9 @@ unused-terms l e =
       limit = nought (l .limit) (omega arith) i;
       deductible = nought (l .deductible) (omega arith) i;
       reinstatements = nought (l .reinstatements) (omega arith) i;
-      rate = nought (l .rate) (omega arith) i;
       premium = nought (l .premium) (omega arith) i;
       placed = nought (l .placed) (omega arith) i;
+      rates = sym (rates-refilled 0 (l .rates) (omega arith)) i;
     }
 
 -- the programme of lawful contracts is valid

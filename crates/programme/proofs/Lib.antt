@@ -1,3 +1,4 @@
+pub mod Rates
 pub mod Bounds
 pub mod Faults
 pub mod Places

@@ -9,8 +9,20 @@ use Rattle.layer.specs.Layer.{termsOf}
 use Rattle.programme.specs.declared.contract.Treaties.{Treaties}
 use Rattle.programme.specs.declared.contract.Layers.{Layers}
 use Rattle.programme.specs.declared.contract.Programme.{Programme}
-use Rattle.programme.specs.declared.contract.Contract.{Contract}
-use Rattle.programme.specs.declared.contract.Contract.the-variants.{Proportional, Risk, Cat}
+use Rattle.programme.specs.declared.contract.Kind.{Kind}
+use Rattle.programme.specs.declared.contract.Kind.the-variants as kind
+
+-- what one line of a table says
+pub data Contract : Type 0 where
+  Proportional : Treaty → Contract
+  Risk : Terms → Contract
+  Cat : Terms → Contract
+
+-- the contract of a kind, with a layer's terms beside it
+abbrev pub contractOf : Kind → Terms → Contract
+contractOf (kind.Proportional t) l = Proportional t
+contractOf kind.Risk l = Risk l
+contractOf kind.Cat l = Cat l
 
 -- contracts as a table has them, each kind in the table's order
 pub record Contracts : Type 0 where
@@ -37,7 +49,7 @@ abbrev pub noTreaty : Treaty
 noTreaty = record { kind = 0; number = 0; cede = 0; capacity = 0; retention = 0; lines = 0; limit = 0 }
 
 abbrev pub noTerms : Terms
-noTerms = termsOf 0 0 0 0 0 0 0
+noTerms = termsOf 0 0 0 0 0 [] 0
 
 -- contracts in the first of eight places
 abbrev pub treatyPlaces : List Treaty → Treaties

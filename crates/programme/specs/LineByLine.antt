@@ -1,17 +1,18 @@
 -- What reading keeps from line to line: how many of each kind were read, and their last figures.
 -- Assumes nothing.
 use Prim.Native.Nat.{ℕ, _+_, _≤_}
-use Rattle.programme.specs.declared.contract.Contract.{Contract}
-use Rattle.programme.specs.declared.contract.Contract.the-variants.{Proportional, Risk, Cat}
+use Rattle.programme.specs.declared.contract.Kind.{Kind}
+use Rattle.programme.specs.declared.contract.Kind.the-variants as kind
 use Rattle.programme.specs.declared.rule.Last.{Last}
 use Rattle.programme.specs.declared.rule.Before.{Before}
+use Rattle.programme.specs.Contracts.{Contract, Proportional, Risk, Cat}
 use Rattle.programme.specs.Rules.{bandEnd}
 
 -- how many of a contract's kind stand before it: its place
-abbrev pub placeAfter : Before → Contract → ℕ
-placeAfter p (Proportional t) = p .treaties .count
-placeAfter p (Risk l) = p .risk .count
-placeAfter p (Cat l) = p .cat .count
+abbrev pub placeAfter : Before → Kind → ℕ
+placeAfter p (kind.Proportional t) = p .treaties .count
+placeAfter p kind.Risk = p .risk .count
+placeAfter p kind.Cat = p .cat .count
 
 -- one more of a kind, with its figure
 abbrev pub nextOf : Last → ℕ → Last

@@ -1,8 +1,11 @@
--- Document 01, The table text: the ranges of a table's numbers.
+-- Document 01, The table text, with document 02's Q-2: the ranges of a table's numbers.
 -- Assumes nothing.
 use mathlib.Core.Bool.{cond, _&&_}
+use mathlib.Core.List.{List}
 use Prim.Native.Nat.{ℕ, _+_, _^_}
 use lib.Dec.{leb, eqb}
+use lib.ListN.{length, take, drop}
+use Rattle.lists.specs.Chains.{every}
 use Rattle.treaty.specs.declared.Treaty.{Treaty}
 use Rattle.layer.specs.declared.terms.Terms.{Terms}
 
@@ -27,15 +30,22 @@ surplusOutside t =
 unfoldable pub treatyOutside : Treaty → ℕ
 treatyOutside t = cond (eqb (t .kind) 1) (quotaOutside t) (cond (eqb (t .kind) 2) (surplusOutside t) 1)
 
--- of a layer: attachment 0 to 10^13; limit 1 to 10^13; deduct 0 to 10^15; K 0 to 20; Q 0 to 20,000; premium 0 to
--- 10^12; S 0 to 10,000
+-- "each rate 0 to 20,000", "An unused rate is 0": 0 where of twenty places the first k hold such rates and the others
+-- 0, and 1 elsewhere
+unfoldable pub ratesOutside : (k : ℕ) → List ℕ → ℕ
+ratesOutside k qs =
+    cond (eqb (length qs) 20
+    && (every (λ (q : ℕ). leb q 20000) (take k qs) && every (λ (q : ℕ). eqb q 0) (drop k qs))) 0 1
+
+-- of a layer: attachment 0 to 10^13; limit 1 to 10^13; deduct 0 to 10^15; K 0 to 20; premium 0 to 10^12; S 0 to
+-- 10,000; and its rates
 unfoldable pub termsOutside : Terms → ℕ
 termsOutside l =
     outside 0 (10 ^ 13) (l .attachment) + outside 1 (10 ^ 13) (l .limit) + outside 0 (10 ^ 15) (l .deductible)
-    + outside 0 20 (l .reinstatements) + outside 0 20000 (l .rate) + outside 0 (10 ^ 12) (l .premium)
-    + outside 0 10000 (l .placed)
+    + outside 0 20 (l .reinstatements) + outside 0 (10 ^ 12) (l .premium) + outside 0 10000 (l .placed)
+    + ratesOutside (l .reinstatements) (l .rates)
 
--- how many numbers of a place are not 0
+-- how many numbers of a place are not 0; a layer's rates count for one
 unfoldable pub treatyNotZero : Treaty → ℕ
 treatyNotZero t =
     outside 0 0 (t .kind) + outside 0 0 (t .number) + outside 0 0 (t .cede) + outside 0 0 (t .capacity)
@@ -44,4 +54,5 @@ treatyNotZero t =
 unfoldable pub termsNotZero : Terms → ℕ
 termsNotZero l =
     outside 0 0 (l .attachment) + outside 0 0 (l .limit) + outside 0 0 (l .deductible)
-    + outside 0 0 (l .reinstatements) + outside 0 0 (l .rate) + outside 0 0 (l .premium) + outside 0 0 (l .placed)
+    + outside 0 0 (l .reinstatements) + outside 0 0 (l .premium) + outside 0 0 (l .placed)
+    + ratesOutside 0 (l .rates)

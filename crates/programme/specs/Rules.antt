@@ -8,11 +8,9 @@ use lib.ListN.{length}
 use Rattle.lists.specs.Chains.{lastBy}
 use Rattle.treaty.specs.declared.Treaty.{Treaty}
 use Rattle.layer.specs.declared.terms.Terms.{Terms}
-use Rattle.programme.specs.declared.contract.Contract.{Contract}
-use Rattle.programme.specs.declared.contract.Contract.the-variants.{Proportional, Risk, Cat}
 use Rattle.programme.specs.declared.rule.Last.{Last}
 use Rattle.programme.specs.declared.rule.Before.{Before}
-use Rattle.programme.specs.Contracts.{Contracts}
+use Rattle.programme.specs.Contracts.{Contract, Proportional, Risk, Cat, Contracts}
 use Rattle.programme.specs.Ranges.{treatyOutside, termsOutside}
 
 -- a treaty's number T

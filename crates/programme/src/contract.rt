@@ -1,6 +1,7 @@
 // A programme: its treaties, risk layers and cat layers, each kind in eight places.
 ghost use mathlib.Core.Path.{_≡_};
 ghost use Rattle.programme.specs.Contracts.{noTreaty, noTerms, noContracts, programmeOf};
+use layer::terms::RATES;
 use layer::terms::Terms;
 use layer::tier;
 use treaty::Treaty;
@@ -29,11 +30,11 @@ pub struct Programme {
     pub cat: Layers,
 }
 
-// What one line of a table says.
-pub enum Contract {
+// What one line of a table says; a layer's terms stand beside it.
+pub enum Kind {
     Proportional(Treaty),
-    Risk(Terms),
-    Cat(Terms),
+    Risk,
+    Cat,
 }
 
 // What an unused place holds.
@@ -60,9 +61,9 @@ pub fn no_terms() -> Terms
         limit: 0,
         deductible: 0,
         reinstatements: 0,
-        rate: 0,
         premium: 0,
         placed: 0,
+        rates: [0; RATES],
     }
 }
 

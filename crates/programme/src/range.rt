@@ -2,7 +2,8 @@
 ghost use mathlib.Core.Path.{_≡_};
 ghost use Prim.Native.Nat.{_≤_};
 ghost use Rattle.programme.specs.Ranges.{outside, quotaOutside, surplusOutside, treatyOutside};
-ghost use Rattle.programme.specs.Ranges.{termsOutside, treatyNotZero, termsNotZero};
+ghost use Rattle.programme.specs.Ranges.{ratesOutside, termsOutside, treatyNotZero, termsNotZero};
+use layer::terms::RATES;
 use layer::terms::Terms;
 use treaty::Treaty;
 
@@ -71,17 +72,38 @@ pub fn treaty_outside(t: Treaty) -> u64
     }
 }
 
-// How many of a layer's numbers are outside their range.
+// 1 where a rate in use is outside its range, or another place does not hold 0; else 0. Most places hold 0.
+fn rates_outside(rates: [u64; RATES], used: u64) -> u64
+    ensures { λ r. ⌜ (r ≡ ratesOutside used rates) × (r ≤ 1) ⌝ }
+{
+    let mut i: usize = 0;
+    while i < RATES {
+        let rate = rates[i];
+        i += 1;
+        if rate != 0 {
+            if used < i as u64 {
+                return 1;
+            }
+            if RATE < rate {
+                return 1;
+            }
+        }
+    }
+    0
+}
+
+// How many of a layer's numbers are outside their range; its rates count for one.
 pub fn terms_outside(l: Terms) -> u64
     ensures { λ r. ⌜ r ≡ termsOutside l ⌝ }
 {
+    let rates = l.rates;
     outside(0, AMOUNT, l.attachment)
         + outside(1, AMOUNT, l.limit)
         + outside(0, DEDUCTIBLE, l.deductible)
         + outside(0, REINSTATEMENTS, l.reinstatements)
-        + outside(0, RATE, l.rate)
         + outside(0, PREMIUM, l.premium)
         + outside(0, arith::WHOLE, l.placed)
+        + rates_outside(rates, l.reinstatements)
 }
 
 // How many numbers of a treaty's place are not 0.
@@ -97,15 +119,16 @@ pub fn treaty_not_zero(t: Treaty) -> u64
         + outside(0, 0, t.limit)
 }
 
-// How many numbers of a layer's place are not 0.
+// How many numbers of a layer's place are not 0; its rates count for one.
 pub fn terms_not_zero(l: Terms) -> u64
     ensures { λ r. ⌜ r ≡ termsNotZero l ⌝ }
 {
+    let rates = l.rates;
     outside(0, 0, l.attachment)
         + outside(0, 0, l.limit)
         + outside(0, 0, l.deductible)
         + outside(0, 0, l.reinstatements)
-        + outside(0, 0, l.rate)
         + outside(0, 0, l.premium)
         + outside(0, 0, l.placed)
+        + rates_outside(rates, 0)
 }

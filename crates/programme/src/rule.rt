@@ -1,11 +1,11 @@
 // Faults 3, 4 and 5 of a table's line that is one of the four forms.
 ghost use mathlib.Core.Path.{_≡_};
 ghost use Prim.Native.Nat.{_≤_};
-ghost use Rattle.programme.specs.Contracts.{noContracts};
+ghost use Rattle.programme.specs.Contracts.{noContracts, contractOf};
 ghost use Rattle.programme.specs.Rules.{treatyFault, layerFault, faultAfter};
 ghost use Rattle.programme.specs.Rules.{beforeOf};
 ghost use Rattle.programme.specs.LineByLine.{placeAfter, beforeNext, nextOf, EightAtMost};
-use crate::contract::Contract;
+use crate::contract::Kind;
 use crate::contract::PLACES;
 use crate::range;
 use layer::terms::Terms;
@@ -98,59 +98,59 @@ impl Before {
     }
 
     // The fault of the next line's contract, or 0.
-    pub fn fault(self, contract: Contract) -> u64
+    pub fn fault(self, kind: Kind, terms: Terms) -> u64
         requires { ⌜ EightAtMost self ⌝ }
-        ensures { λ r. ⌜ r ≡ faultAfter self contract ⌝ }
+        ensures { λ r. ⌜ r ≡ faultAfter self (contractOf kind terms) ⌝ }
     {
         let risk = self.risk;
         let cat = self.cat;
-        match contract {
-            Contract::Proportional(t) => {
+        match kind {
+            Kind::Proportional(t) => {
                 let treaties = self.treaties;
                 treaty_fault(risk.count + cat.count, treaties.figure, t)
             }
-            Contract::Risk(l) => layer_fault(cat.count, risk, l),
-            Contract::Cat(l) => layer_fault(0, cat, l),
+            Kind::Risk => layer_fault(cat.count, risk, terms),
+            Kind::Cat => layer_fault(0, cat, terms),
         }
     }
 
     // The place of the next line's contract among its kind.
-    pub fn place(self, contract: Contract) -> usize
-        ensures { λ r. ⌜ r ≡ placeAfter self contract ⌝ }
+    pub fn place(self, kind: Kind) -> usize
+        ensures { λ r. ⌜ r ≡ placeAfter self kind ⌝ }
     {
         let treaties = self.treaties;
         let risk = self.risk;
         let cat = self.cat;
-        match contract {
-            Contract::Proportional(_) => treaties.count,
-            Contract::Risk(_) => risk.count,
-            Contract::Cat(_) => cat.count,
+        match kind {
+            Kind::Proportional(_) => treaties.count,
+            Kind::Risk => risk.count,
+            Kind::Cat => cat.count,
         }
     }
 
     // What stands before the line after a contract's that is without fault.
-    pub fn after(self, contract: Contract) -> Before
-        requires { ⌜ EightAtMost self × (faultAfter self contract ≡ 0) ⌝ }
-        ensures { λ r. ⌜ r ≡ beforeNext self contract ⌝ }
+    pub fn after(self, kind: Kind, terms: Terms) -> Before
+        requires { ⌜ EightAtMost self × (faultAfter self (contractOf kind terms) ≡ 0) ⌝ }
+        ensures { λ r. ⌜ r ≡ beforeNext self (contractOf kind terms) ⌝ }
     {
         let treaties = self.treaties;
         let risk = self.risk;
         let cat = self.cat;
-        match contract {
-            Contract::Proportional(t) => Before {
+        match kind {
+            Kind::Proportional(t) => Before {
                 treaties: treaties.next(t.number),
                 risk,
                 cat,
             },
-            Contract::Risk(l) => Before {
+            Kind::Risk => Before {
                 treaties,
-                risk: risk.next(l.attachment + l.limit),
+                risk: risk.next(terms.attachment + terms.limit),
                 cat,
             },
-            Contract::Cat(l) => Before {
+            Kind::Cat => Before {
                 treaties,
                 risk,
-                cat: cat.next(l.attachment + l.limit),
+                cat: cat.next(terms.attachment + terms.limit),
             },
         }
     }

@@ -1,22 +1,26 @@
--- How far amounts reach a tier: the largest of them, the layers with an attachment below it, and no layer after these.
+-- Which layers of a tier amounts may move: the first are exhausted, and the largest amount reaches those with an
+-- attachment below it, no layer after these.
 -- Assumes nothing.
-use mathlib.Core.Path.{_≡_, ap, _∙_}
+use mathlib.Core.Path.{_≡_, sym, ap, _∙_}
 use mathlib.Core.Bool.{Bool, cond}
 use mathlib.Core.List.{List, [], _∷_}
 use Prim.Native.Nat.{ℕ, suc, _+_, _≤_, _<_, max}
 use native.Mathlib.Numerals.{add-one}
 use native.Mathlib.Omega.{arith}
 use borrow.Author.Tests.{lt-ltb, le-ltb}
-use lib.ListN.{length, drop, getD, drop-of-length-le}
-use lib.Seq.{drop-cons}
+use lib.ListN.{length, take, drop, getD, drop-of-length-le}
+use lib.Seq.{drop-cons, slice, slice-cons, slice-empty}
 use Rattle.lists.specs.Each.{Each}
 use Rattle.lists.proofs.Cases.{by-lt}
-use Rattle.lists.proofs.Each.{each-so}
+use Rattle.lists.proofs.Each.{each-so, each-at, each-drop}
 use Rattle.layer.specs.declared.terms.Terms.{Terms}
-use Rattle.layer.specs.Ranges.{Rising}
-use Rattle.layer.proofs.Unreached.{From, rising-from, Unreached, unreached-from}
+use Rattle.layer.specs.declared.record.Layer.{Layer}
+use Rattle.layer.specs.Layer.{capOf, layerOf}
+use Rattle.layer.specs.Ranges.{InRange, Sound, Rising}
+use Rattle.layer.proofs.Still.{From, rising-from, Still, still-from}
 use Rattle.year.specs.Standing.{layersWith}
-use Rattle.standings.specs.Tier.{largestOf, reachedBy}
+use Rattle.standings.specs.Tier.{largestOf, reachedBy, exhaustedOf}
+use Rattle.standings.proofs.Loads.{with-length, with-at}
 
 -- the largest of the first i amounts is m: those ahead give the whole answer
 pub record Sought (xs : List ℕ) (m i : ℕ) : Type 0 where
@@ -101,9 +105,86 @@ up-to-largest (x ∷ xs) = (
   each-so (λ (y : ℕ). y ≤ largestOf xs) (λ (y : ℕ). y ≤ largestOf (x ∷ xs)) (λ y h. omega arith) xs (up-to-largest xs),
 )
 
--- so no amount reaches them
-pub unreached-after : (xs : List ℕ) (ts : List Terms) (ms : List ℕ) → Rising 0 (layersWith ts ms)
-    → Unreached xs (drop (reachedBy (largestOf xs) ts) (layersWith ts ms))
-unreached-after xs ts ms r =
-    unreached-from xs (largestOf xs) (up-to-largest xs) (drop (reachedBy (largestOf xs) ts) (layersWith ts ms))
+-- so the amounts leave them as they are
+pub still-after : (xs : List ℕ) (ts : List Terms) (ms : List ℕ) → Each Sound (layersWith ts ms)
+    → Rising 0 (layersWith ts ms) → Still xs (drop (reachedBy (largestOf xs) ts) (layersWith ts ms))
+still-after xs ts ms s r =
+    let n = reachedBy (largestOf xs) ts in
+    still-from xs (largestOf xs) (up-to-largest xs) (drop n (layersWith ts ms)) (each-drop Sound n (layersWith ts ms) s)
     (from-reached (largestOf xs) 0 ts ms r)
+
+-- a layer that has spent up to its cap
+abbrev pub Exhausted : Layer → Type 0
+Exhausted y = capOf (y .terms) ≤ y .spent .0
+
+exhaust-one : (y : Layer) (ys : List Layer) → Exhausted y → exhaustedOf (y ∷ ys) ≡ suc (exhaustedOf ys)
+exhaust-one y ys h = ap (λ (b : Bool). cond b 0 (suc (exhaustedOf ys))) (le-ltb _ _ h)
+
+exhaust-none : (y : Layer) (ys : List Layer) → y .spent .0 < capOf (y .terms) → exhaustedOf (y ∷ ys) ≡ 0
+exhaust-none y ys h = ap (λ (b : Bool). cond b 0 (suc (exhaustedOf ys))) (lt-ltb _ _ h)
+
+-- no more layers are exhausted than there are, and those that are have spent up to their cap
+pub exhausted-le : (ys : List Layer) → exhaustedOf ys ≤ length ys
+exhausted-le [] = omega arith
+exhausted-le (y ∷ ys) =
+    by-lt (y .spent .0) (capOf (y .terms)) (λ h. rw (exhaust-none y ys h) (omega arith))
+    (λ h. rw (exhaust-one y ys h) (omega (arith, exhausted-le ys)))
+
+pub exhausted-full : (ys : List Layer) → Each Exhausted (take (exhaustedOf ys) ys)
+exhausted-full [] = tt
+exhausted-full (y ∷ ys) =
+    by-lt (y .spent .0) (capOf (y .terms)) (λ h. rw (exhaust-none y ys h) tt)
+    (λ h. rw (exhaust-one y ys h) (h, exhausted-full ys))
+
+-- the first i of k layers are exhausted: those ahead give the whole answer
+pub record Exhausting (k : ℕ) (ts : List Terms) (ms : List ℕ) (i : ℕ) : Type 0 where
+  pub sound : Each Sound (layersWith ts ms)
+  pub inside : k ≤ length ts
+  pub within : i ≤ k
+  pub rest : exhaustedOf (take k (layersWith ts ms)) ≡ i + exhaustedOf (slice i k (layersWith ts ms))
+
+pub none-exhausted : (k : ℕ) (ts : List Terms) (ms : List ℕ) → Each Sound (layersWith ts ms) → k ≤ length ts
+    → Exhausting k ts ms 0
+none-exhausted k ts ms s h = record { sound = s; inside = h; within = omega arith; rest = omega arith }
+
+module _ {k : ℕ} {ts : List Terms} {ms : List ℕ} {i : ℕ} (g : Exhausting k ts ms i) where
+  abbrev layers : List Layer
+  layers = layersWith ts ms
+
+  -- the layer in the next place, its spent amount and its cap
+  module _ (d : Terms) (y : Layer) (h : i < k) (is : y ≡ layerOf (getD ts i d) (getD ms i 0)) where
+    own : getD layers i y ≡ y
+    own = with-at ts ms i y d (omega (arith, g .inside)) ∙ sym is
+
+    long : k ≤ length layers
+    long = omega (arith, g .inside, with-length ts ms)
+
+    next-sound : Sound y
+    next-sound = rw own at (each-at Sound layers (g .sound) i y (omega (arith, long)))
+
+    pub next-in-range : InRange (y .terms)
+    next-in-range = next-sound .terms
+
+    next : exhaustedOf (slice i k layers) ≡ exhaustedOf (y ∷ slice (i + 1) k layers)
+    next =
+        ap exhaustedOf
+        (slice-cons i k layers y h long ∙ (λ j. own j ∷ slice (sym (add-one i) j) k layers))
+
+    module _ (m c : ℕ) (spent : m ≡ y .spent .0) (cap : c ≡ capOf (y .terms)) where
+      pub one-exhausted : c ≤ m → Exhausting k ts ms (i + 1)
+      one-exhausted f = record {
+        sound = g .sound;
+        inside = g .inside;
+        within = omega arith;
+        rest = omega (arith, g .rest, next, exhaust-one y (slice (i + 1) k layers) (omega (arith, spent, cap)));
+      }
+
+      pub exhausted-no-more : m < c → i ≡ exhaustedOf (take k layers)
+      exhausted-no-more lt =
+          omega (arith, g .rest, next, exhaust-none y (slice (i + 1) k layers) (omega (arith, spent, cap)))
+
+  pub all-exhausted : k ≤ i → k ≡ exhaustedOf (take k layers)
+  all-exhausted h =
+      let e : i ≡ k = omega (arith, g .within) in
+      let none : exhaustedOf (slice i k layers) ≡ 0 = rw e (ap exhaustedOf (slice-empty k layers)) in
+      omega (arith, g .rest, none)

@@ -2,13 +2,13 @@
 -- Assumes nothing.
 use mathlib.Core.Path.{_≡_, refl, sym, ap, _∙_}
 use mathlib.Core.Bool.{true}
-use mathlib.Core.List.{List, [], _∷_, _++_}
+use mathlib.Core.List.{List, [], _∷_, _++_, append-assoc}
 use Prim.Native.Nat.{ℕ, _+_, _-_, _≤_}
 use native.Mathlib.Omega.{arith}
 use borrow.Author.Tests.{eqb-true}
 use lib.Dec.{eqb}
-use lib.ListN.{length, take, drop, replicate, length-map, length-drop, length-take, take-append-drop}
-use lib.Seq.{length-take-le}
+use lib.ListN.{length, take, drop, replicate, length-map, length-drop, take-append-drop}
+use lib.Seq.{length-take-le, slice, slice-empty}
 use Rattle.lists.specs.Each.{Each}
 use Rattle.lists.specs.Chains.{every}
 use Rattle.lists.proofs.Chains.{both}
@@ -21,18 +21,17 @@ use Rattle.layer.specs.Layer.{sumsOf}
 use Rattle.layer.specs.Numbers.{tierFrom}
 use Rattle.layer.specs.Tier.{layersThrough, recoveriesThrough, chargesThrough, sumsThrough, tierAfter}
 use Rattle.layer.specs.Ranges.{Sound, Rising, SoundLayers}
-use Rattle.layer.proofs.Through.{afterEach, layers-each}
+use Rattle.layer.proofs.Through.{afterEach, layers-each, recoveries-each, charges-each}
 use Rattle.layer.proofs.Tiers.{layers-through}
-use Rattle.layer.proofs.Unreached.{Unreached, layers-unreached, recoveries-unreached, charges-unreached}
-use Rattle.layer.proofs.Unreached.{layers-as-far, recoveries-as-far, charges-as-far}
+use Rattle.layer.proofs.Still.{Still, still-full, layers-between, recoveries-between, charges-between}
 use Rattle.programme.proofs.Places.{places-length}
 use Rattle.year.specs.Standing.{spentOf, layersWith, withinCap}
 use Rattle.year.proofs.Layers.{Carries, passes-carries, carries-length, carries-sound, carries-rising, carries-through}
 use Rattle.year.proofs.Layers.{stored-loads, stored-passes}
-use Rattle.standings.specs.Tier.{largestOf, reachedBy, layersFrom, placesOf, CanBear}
-use Rattle.standings.proofs.Loads.{first-with}
-use Rattle.standings.proofs.Stores.{front-stored}
-use Rattle.standings.proofs.Extent.{reached-le, unreached-after}
+use Rattle.standings.specs.Tier.{largestOf, reachedBy, exhaustedOf, layersFrom, placesOf, CanBear}
+use Rattle.standings.proofs.Loads.{with-length}
+use Rattle.standings.proofs.Stores.{between-stored}
+use Rattle.standings.proofs.Extent.{reached-le, still-after, exhausted-le, exhausted-full}
 
 -- places that pass the test hold 0
 all-zero : (ms : List ℕ) → every (λ (m : ℕ). eqb m 0) ms ≡ true → ms ≡ replicate (length ms) 0
@@ -117,76 +116,124 @@ module _ {ns ms : List ℕ} (b : CanBear ns ms) (xs : List ℕ) (m n : ℕ) (mos
   pub reached-places : n ≤ length ms
   reached-places = omega (arith, reached-few, b .places)
 
+  reached-layers : length (take n ls) ≡ n
+  reached-layers = length-take-le n ls (omega (arith, reached-inside, with-length (tierFrom ns) ms))
+
   -- the layers after them bear nothing
   rest-sound : Each Sound (drop n ls)
   rest-sound = each-drop Sound n ls (bears-sound b)
 
-  rest-unreached : Unreached xs (drop n ls)
-  rest-unreached = rw (reach, most) (unreached-after xs (tierFrom ns) ms (bears-rising b))
+  rest-still : Still xs (drop n ls)
+  rest-still = rw (reach, most) (still-after xs (tierFrom ns) ms (bears-sound b) (bears-rising b))
 
-  split : take n ls ++ drop n ls ≡ ls
-  split = take-append-drop n ls
+  -- and of those, the first f, which are exhausted
+  module _ (f : ℕ) (full : f ≡ exhaustedOf (take n ls)) where
+    pub exhausted-inside : f ≤ n
+    exhausted-inside = rw full (omega (arith, exhausted-le (take n ls), reached-layers))
 
-  layers-front : layersThrough xs (take n ls) ++ drop n ls ≡ layersThrough xs ls
-  layers-front =
-      sym (layers-as-far xs (take n ls) (drop n ls) rest-sound rest-unreached) ∙ ap (layersThrough xs) split
+    abbrev front : List Layer
+    front = take f (take n ls)
 
-  recoveries-front : recoveriesThrough xs (take n ls) ≡ recoveriesThrough xs ls
-  recoveries-front =
-      sym (recoveries-as-far xs (take n ls) (drop n ls) rest-sound rest-unreached) ∙ ap (recoveriesThrough xs) split
+    front-sound : Each Sound front
+    front-sound = each-take Sound f (take n ls) (each-take Sound n ls (bears-sound b))
 
-  charges-front : chargesThrough xs (take n ls) ≡ chargesThrough xs ls
-  charges-front =
-      sym (charges-as-far xs (take n ls) (drop n ls) rest-sound rest-unreached) ∙ ap (chargesThrough xs) split
+    front-still : Still xs front
+    front-still = still-full xs front front-sound (rw full (exhausted-full (take n ls)))
 
-  -- no layer is reached
-  module _ (none : n ≡ 0) where
-    pub places-same : ms ≡ placesOf (layersThrough xs ls)
-    places-same =
-        places-held b ∙ ap placesOf (sym (layers-unreached xs ls (bears-sound b) (rw none at rest-unreached)))
+    apart : front ++ (slice f n ls ++ drop n ls) ≡ ls
+    apart =
+        sym (append-assoc front (slice f n ls) (drop n ls))
+        ∙ ap (λ (l : List Layer). l ++ drop n ls) (take-append-drop f (take n ls))
+        ∙ take-append-drop n ls
 
-    pub nothing-borne : (s : Sums) → s .recovered .0 ≡ 0 → s .premium .0 ≡ 0
-        → s ≡ sumsOf (recoveriesThrough xs ls) (chargesThrough xs ls)
-    nothing-borne s r p =
-        let u : Unreached xs ls = rw none at rest-unreached in
-        let recovered = r ∙ sym (recoveries-unreached xs ls (bears-sound b) u) in
-        let premium = p ∙ sym (charges-unreached xs ls (bears-sound b) u) in
-        λ j. sumsOf (recovered j) (premium j)
+    layers-moved : front ++ (layersThrough xs (slice f n ls) ++ drop n ls) ≡ layersThrough xs ls
+    layers-moved =
+        sym (layers-between xs front (slice f n ls) (drop n ls) front-sound front-still rest-sound rest-still)
+        ∙ ap (layersThrough xs) apart
 
-  -- the records of those that are
-  module _ (rs : List Layer) (loaded : take n rs ≡ layersWith (take n (tierFrom ns)) ms) where
-    first : take n rs ≡ take n ls
-    first = loaded ∙ sym (first-with n (tierFrom ns) ms)
+    recoveries-moved : recoveriesThrough xs (slice f n ls) ≡ recoveriesThrough xs ls
+    recoveries-moved =
+        sym (recoveries-between xs front (slice f n ls) (drop n ls) front-sound front-still rest-sound rest-still)
+        ∙ ap (recoveriesThrough xs) apart
 
-    pub records-sound : SoundLayers (take n rs)
-    records-sound = rw first record {
-      few = omega (arith, length-take n ls, reached-few);
-      each = each-take Sound n ls (bears-sound b);
-    }
+    charges-moved : chargesThrough xs (slice f n ls) ≡ chargesThrough xs ls
+    charges-moved =
+        sym (charges-between xs front (slice f n ls) (drop n ls) front-sound front-still rest-sound rest-still)
+        ∙ ap (chargesThrough xs) apart
 
-    pub sums-borne : (s : Sums) → s .recovered .0 ≡ 0 → s .premium .0 ≡ 0 → (t : Sums)
-        → t ≡ sumsThrough xs s (take n rs) → t ≡ sumsOf (recoveriesThrough xs ls) (chargesThrough xs ls)
-    sums-borne s r p t is =
-        let recovered : s .recovered .0 + recoveriesThrough xs (take n rs) ≡ recoveriesThrough xs ls =
-        rw first (omega (arith, recoveries-front)) in
-        let premium : s .premium .0 + chargesThrough xs (take n rs) ≡ chargesThrough xs ls =
-        rw first (omega (arith, charges-front)) in
-        is ∙ (λ j. sumsOf (recovered j) (premium j))
+    -- no layer is left that moves
+    module _ (none : f ≡ n) where
+      empty : slice f n ls ≡ []
+      empty = rw none (slice-empty n ls)
 
-    pub places-borne : (t : Tier) → t ≡ tierAfter xs (record { layers = rs; count = n }) → (ms′ : List ℕ)
-        → ms′ ≡ spentOf (take n (t .layers)) ++ drop n ms → ms′ ≡ placesOf (layersThrough xs ls)
-    places-borne t is ms′ stored =
-        let front = take n ls in
-        let many : length front ≡ n =
-        length-take-le n ls (omega (arith, reached-inside, carries-length (tierFrom ns) ls (carries b))) in
-        let after : length (layersThrough xs front) ≡ n =
-        ap length (layers-each xs front) ∙ length-map front (afterEach xs) ∙ many in
-        let borne : take n (t .layers) ≡ layersThrough xs (take n ls) =
-        ap (λ (u : Tier). take n (u .layers)) is
-        ∙ layers-through xs (record { layers = rs; count = n })
-        ∙ ap (layersThrough xs) first in
-        stored
-        ∙ (λ j. spentOf (borne j) ++ drop n (places-held b j))
-        ∙ ap (λ (l : List Layer). spentOf (layersThrough xs front) ++ drop n (placesOf l)) (sym split)
-        ∙ front-stored n (layersThrough xs front) front (drop n ls) after many
-        ∙ ap placesOf layers-front
+      pub places-same : ms ≡ placesOf (layersThrough xs ls)
+      places-same =
+          let same : layersThrough xs (slice f n ls) ≡ slice f n ls = rw empty (layers-each xs []) in
+          let all = ap (λ (l : List Layer). front ++ (l ++ drop n ls)) same ∙ apart in
+          places-held b ∙ ap placesOf (sym all ∙ layers-moved)
+
+      pub nothing-borne : (s : Sums) → s .recovered .0 ≡ 0 → s .premium .0 ≡ 0
+          → s ≡ sumsOf (recoveriesThrough xs ls) (chargesThrough xs ls)
+      nothing-borne s r p =
+          let no-recovery : recoveriesThrough xs (slice f n ls) ≡ 0 = rw empty (recoveries-each xs []) in
+          let no-charge : chargesThrough xs (slice f n ls) ≡ 0 = rw empty (charges-each xs []) in
+          let recovered = r ∙ sym no-recovery ∙ recoveries-moved in
+          let premium = p ∙ sym no-charge ∙ charges-moved in
+          λ j. sumsOf (recovered j) (premium j)
+
+    moved-end : f + (n - f) ≡ n
+    moved-end = omega (arith, exhausted-inside)
+
+    pub moved-few : n - f ≤ 8
+    moved-few = omega (arith, reached-few)
+
+    pub moved-inside : f + (n - f) ≤ length (tierFrom ns)
+    moved-inside = omega (arith, moved-end, reached-inside)
+
+    pub moved-places : f + (n - f) ≤ length ms
+    moved-places = omega (arith, moved-end, reached-places)
+
+    -- the records of those that are left
+    module _ (rs : List Layer) (loaded : take (n - f) rs ≡ slice f (f + (n - f)) ls) where
+      first : take (n - f) rs ≡ slice f n ls
+      first = loaded ∙ ap (λ (k : ℕ). slice f k ls) moved-end
+
+      moved-length : length (slice f n ls) ≡ n - f
+      moved-length = omega (arith, length-drop f (take n ls), reached-layers)
+
+      pub records-sound : SoundLayers (take (n - f) rs)
+      records-sound = rw first record {
+        few = omega (arith, moved-length, reached-few);
+        each = each-drop Sound f (take n ls) (each-take Sound n ls (bears-sound b));
+      }
+
+      pub sums-borne : (s : Sums) → s .recovered .0 ≡ 0 → s .premium .0 ≡ 0 → (t : Sums)
+          → t ≡ sumsThrough xs s (take (n - f) rs) → t ≡ sumsOf (recoveriesThrough xs ls) (chargesThrough xs ls)
+      sums-borne s r p t is =
+          let recovered : s .recovered .0 + recoveriesThrough xs (take (n - f) rs) ≡ recoveriesThrough xs ls =
+          rw first (omega (arith, recoveries-moved)) in
+          let premium : s .premium .0 + chargesThrough xs (take (n - f) rs) ≡ chargesThrough xs ls =
+          rw first (omega (arith, charges-moved)) in
+          is ∙ (λ j. sumsOf (recovered j) (premium j))
+
+      pub places-borne : (t : Tier) → t ≡ tierAfter xs (record { layers = rs; count = n - f }) → (ms′ : List ℕ)
+          → ms′ ≡ take f ms ++ (spentOf (take (n - f) (t .layers)) ++ drop (f + (n - f)) ms)
+          → ms′ ≡ placesOf (layersThrough xs ls)
+      places-borne t is ms′ stored =
+          let moved = slice f n ls in
+          let after : length (layersThrough xs moved) ≡ length moved =
+          ap length (layers-each xs moved) ∙ length-map moved (afterEach xs) in
+          let long : length front ≡ f =
+          length-take-le f (take n ls) (omega (arith, reached-layers, exhausted-inside)) in
+          let borne : take (n - f) (t .layers) ≡ layersThrough xs moved =
+          ap (λ (u : Tier). take (n - f) (u .layers)) is
+          ∙ layers-through xs (record { layers = rs; count = n - f })
+          ∙ ap (layersThrough xs) first in
+          stored
+          ∙ (λ j. take f (places-held b j) ++ (spentOf (borne j) ++ drop (moved-end j) (places-held b j)))
+          ∙ ap
+          (λ (l : List Layer). take f (placesOf l) ++ (spentOf (layersThrough xs moved) ++ drop n (placesOf l)))
+          (sym apart)
+          ∙ between-stored front (layersThrough xs moved) moved (drop n ls) f n long after
+          (omega (arith, moved-length, exhausted-inside))
+          ∙ ap placesOf layers-moved

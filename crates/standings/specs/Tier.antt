@@ -11,6 +11,7 @@ use Rattle.lists.specs.Chains.{chained}
 use Rattle.lists.specs.Places.{inPlaces}
 use Rattle.layer.specs.declared.terms.Terms.{Terms}
 use Rattle.layer.specs.declared.record.Layer.{Layer}
+use Rattle.layer.specs.Layer.{capOf}
 use Rattle.layer.specs.Numbers.{tierFrom}
 use Rattle.programme.specs.Rules.{bandEnd}
 use Rattle.programme.specs.Valid.{layerPasses}
@@ -25,6 +26,11 @@ largestOf (x ∷ xs) = max x (largestOf xs)
 abbrev pub reachedBy : ℕ → List Terms → ℕ
 reachedBy x [] = 0
 reachedBy x (t ∷ ts) = cond (ltb (t .attachment) x) (suc (reachedBy x ts)) 0
+
+-- how many layers, from the first on, have spent up to their cap
+abbrev pub exhaustedOf : List Layer → ℕ
+exhaustedOf [] = 0
+exhaustedOf (y ∷ ys) = cond (ltb (y .spent .0) (capOf (y .terms))) 0 (suc (exhaustedOf ys))
 
 -- the layers of a tier's terms, as numbers, with the spent amounts of a standing's places
 abbrev pub layersFrom : (terms spent : List ℕ) → List Layer

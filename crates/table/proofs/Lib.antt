@@ -1,3 +1,5 @@
+pub mod RatePass
+pub mod LayerParts
 pub mod LinePass
 pub mod Tables
 pub mod Writes

@@ -16,11 +16,12 @@ use Rattle.text.specs.Lines.{lineEnd}
 use Rattle.text.proofs.Feeds.{line-at, line-last, line-none}
 use Rattle.treaty.specs.declared.Treaty.{Treaty}
 use Rattle.layer.specs.declared.terms.Terms.{Terms}
-use Rattle.programme.specs.declared.contract.Contract.{Contract}
-use Rattle.programme.specs.declared.contract.Contract.the-variants.{Proportional, Risk, Cat}
+use Rattle.programme.specs.declared.contract.Kind.{Kind}
+use Rattle.programme.specs.declared.contract.Kind.the-variants as kind
 use Rattle.programme.specs.declared.rule.Last.{Last}
 use Rattle.programme.specs.declared.rule.Before.{Before}
-use Rattle.programme.specs.Contracts.{Contracts, noContracts, withContract, noTreaty, noTerms, programmeOf}
+use Rattle.programme.specs.Contracts.{Proportional, Risk, Cat, contractOf, Contracts, noContracts}
+use Rattle.programme.specs.Contracts.{withContract, noTreaty, noTerms, programmeOf}
 use Rattle.programme.specs.Rules.{treatyNumber, bandEnd, lastOf, beforeOf, faultAfter}
 use Rattle.programme.specs.Rules.{faultOf}
 use Rattle.programme.specs.LineByLine.{placeAfter, beforeNext, EightAtMost}
@@ -28,9 +29,9 @@ use Rattle.programme.proofs.Bounds.{treaty-in-range}
 use Rattle.programme.proofs.Faults.{TreatyFaultless, treaty-faultless, layer-faultless}
 use Rattle.programme.proofs.Places.{place-next}
 use Rattle.table_text.specs.declared.Reading.{Reading}
-use Rattle.table_text.specs.declared.Form.{Form}
-use Rattle.table_text.specs.declared.Form.the-variants.{Line, NoForm}
-use Rattle.table_text.specs.Forms.{formOf, formsOf}
+use Rattle.table_text.specs.declared.LineRead.{LineRead}
+use Rattle.table_text.specs.declared.Form.the-variants as form
+use Rattle.table_text.specs.Forms.{formRead, formOf, formsOf}
 use Rattle.table_text.specs.Read.{refusedAt, readAs, unlessFault, readFrom, readOf}
 use Rattle.table.specs.LineByLine.{readPlaces}
 
@@ -122,130 +123,164 @@ module _ (s : List ℕ) (ts : List Treaty) (rs cs : List Terms) (before : Before
     unfolding readFrom
     no-feed r a l = a ∙ sym (g .rest ∙ rw (line-last s at e q h l))
 
-    module _ (b : e ≤ length s) (l : e ≡ length s → ⊥) (f : Form) (w : f ≡ formOf (take (e - at) (drop at s))) where
-      forms : formsOf (drop at s) ≡ f ∷ formsOf (drop (e + 1) s)
+    module _ (b : e ≤ length s) (l : e ≡ length s → ⊥)
+        (read : LineRead) (w : formRead read ≡ formOf (take (e - at) (drop at s))) where
+      forms : formsOf (drop at s) ≡ formRead read ∷ formsOf (drop (e + 1) s)
       forms = rw (line-at s at e q h l, w)
 
-      pub no-form : (r : Reading) → r ≡ refusedAt 2 (number + 1) → f ≡ NoForm → r ≡ readFrom 1 noContracts (formsOf s)
+      pub no-form : (r : Reading) → r ≡ refusedAt 2 (number + 1) → read .form ≡ form.NoForm
+          → r ≡ readFrom 1 noContracts (formsOf s)
       unfolding readFrom
       no-form r a v = a ∙ sym (g .rest ∙ rw (forms, v))
 
-      module _ (x : Contract) (v : f ≡ Line x) (n : ℕ) (z : n ≡ faultAfter before x) where
-        fault : faultOf (g .contracts) x ≡ n
-        fault = sym (z ∙ ap (λ (p : Before). faultAfter p x) as-before)
+      module _ (x : Kind) (v : read .form ≡ form.Line x) (n : ℕ)
+          (z : n ≡ faultAfter before (contractOf x (read .terms))) where
+        fault : faultOf (g .contracts) (contractOf x (read .terms)) ≡ n
+        fault = sym (z ∙ ap (λ (p : Before). faultAfter p (contractOf x (read .terms))) as-before)
 
         pub at-fault : (r : Reading) → r ≡ refusedAt n (number + 1) → (n ≡ 0 → ⊥)
             → r ≡ readFrom 1 noContracts (formsOf s)
         unfolding readFrom
         at-fault r a m = a ∙ sym (g .rest ∙ rw (forms, v, fault) (refuses n (number + 1) _ m))
 
-        module _ (m : n ≡ 0) where
-          pub without-fault : faultAfter before x ≡ 0
-          without-fault = sym z ∙ m
+        pub without-fault : n ≡ 0 → faultAfter before (contractOf x (read .terms)) ≡ 0
+        without-fault m = sym z ∙ m
 
-          -- the lines after this one, where its contract is y
-          ahead : (y : Contract) → x ≡ y → readFrom 1 noContracts (formsOf s)
-              ≡ readFrom (number + 1 + 1) (withContract (g .contracts) y) (formsOf (drop (e + 1) s))
-          unfolding readFrom
-          ahead y u = g .rest ∙ rw (forms, v, fault, m, u)
+-- A line that is a contract without fault: it ends at the place e, is of the kind x, and enters at the place k of its
+-- kind. What stands before the line after it is `next`.
+pub record Entering (s : List ℕ) (ts : List Treaty) (rs cs : List Terms) (before : Before) (number at e : ℕ)
+    (read : LineRead) (x : Kind) (k : ℕ) (next : Before) : Type 0 where
+  pub going : Going s ts rs cs before number at
+  pub end : e ≡ lineEnd s at
+  pub inside : at < length s
+  pub within : e ≤ length s
+  pub feed : e ≡ length s → ⊥
+  pub line : formRead read ≡ formOf (take (e - at) (drop at s))
+  pub kind : read .form ≡ form.Line x
+  pub fine : faultAfter before (contractOf x (read .terms)) ≡ 0
+  pub place : k ≡ placeAfter before x
+  pub after : next ≡ beforeNext before (contractOf x (read .terms))
 
-          fine : (y : Contract) → x ≡ y → faultAfter before y ≡ 0
-          fine y u = ap (faultAfter before) (sym u) ∙ without-fault
+module _ {s : List ℕ} {ts : List Treaty} {rs cs : List Terms} {before : Before} {number at e : ℕ} {read : LineRead}
+    {x : Kind} {k : ℕ} {next : Before} (g : Entering s ts rs cs before number at e read x k next) where
+  -- less of the text is left
+  pub less-left : length s - (e + 1) < length s - at
+  less-left = omega (arith, g .end, g .inside)
 
-          module _ (k : ℕ) (place : k ≡ placeAfter before x)
-              (next : Before) (after : next ≡ beforeNext before x) where
-            -- a treaty enters; 56 bytes a place
-            module _ (t : Treaty) (u : x ≡ Proportional t) where
-              treaty-fine : TreatyFaultless (before .risk .count + before .cat .count) (before .treaties .figure) t
-              treaty-fine = treaty-faultless _ _ t (fine (Proportional t) u)
+  still-inside : e + 1 ≤ length s
+  still-inside = let l = g .feed in omega (arith, g .within)
 
-              last-number : t .number ≤ 8
-              last-number = treaty-in-range t (treaty-fine .inside) .number-high
+  as-early : number + 1 ≤ e + 1
+  as-early = omega (arith, g .going .early, g .end)
 
-              treaty-few : before .treaties .count < 8
-              treaty-few = omega (arith, treaty-fine .number, last-number, g .few-treaties)
+  -- the lines after this one, where it is of the kind y
+  ahead : (y : Kind) → x ≡ y → readFrom 1 noContracts (formsOf s)
+      ≡ readFrom (number + 1 + 1) (withContract (g .going .contracts) (contractOf y (read .terms)))
+      (formsOf (drop (e + 1) s))
+  unfolding readFrom
+  ahead y u =
+      let these =
+      forms s ts rs cs before number at (g .going) e (g .end) (g .inside) (g .within) (g .feed) read (g .line) in
+      let none =
+      fault s ts rs cs before number at (g .going) e (g .end) (g .inside) (g .within) (g .feed) read (g .line) x
+      (g .kind) 0 (sym (g .fine)) in
+      g .going .rest ∙ rw (these, g .kind, none, u)
 
-              treaty-at : k ≡ before .treaties .count
-              treaty-at = place ∙ ap (placeAfter before) u
+  faultless : (y : Kind) → x ≡ y → faultAfter before (contractOf y (read .terms)) ≡ 0
+  faultless y u = rw u at (g .fine)
 
-              pub treaty-place : k < 8
-              treaty-place = omega (arith, treaty-at, treaty-few)
+  -- a treaty enters; 56 bytes a place
+  module _ (t : Treaty) (u : x ≡ kind.Proportional t) where
+    treaty-fine : TreatyFaultless (before .risk .count + before .cat .count) (before .treaties .figure) t
+    treaty-fine = treaty-faultless _ _ t (faultless (kind.Proportional t) u)
 
-              pub treaty-offset : Fits w64 (k * 56)
-              treaty-offset = omega (arith, treaty-place)
+    last-number : t .number ≤ 8
+    last-number = treaty-in-range t (treaty-fine .inside) .number-high
 
-              pub treaty-enters : Going s (set ts k t) rs cs next (number + 1) (e + 1)
-              treaty-enters = rw (after, u, treaty-at) (record {
-                contracts = withContract (g .contracts) (Proportional t);
-                treaties = held-next _ _ _ _ _ (g .treaties) treaty-few t;
-                risk = g .risk;
-                cat = g .cat;
-                few-treaties = omega (arith, treaty-fine .number, g .few-treaties);
-                last-treaty = last-number;
-                few-risk = g .few-risk;
-                few-cat = g .few-cat;
-                within = omega arith;
-                early = omega (arith, g .early);
-                rest = ahead (Proportional t) u;
-              })
+    treaty-few : before .treaties .count < 8
+    treaty-few = omega (arith, treaty-fine .number, last-number, g .going .few-treaties)
 
-            -- a risk layer enters
-            module _ (t : Terms) (u : x ≡ Risk t) where
-              risk-few : before .risk .count < 8
-              risk-few = layer-faultless _ _ t (fine (Risk t) u) .few
+    treaty-at : k ≡ before .treaties .count
+    treaty-at = g .place ∙ ap (placeAfter before) u
 
-              risk-at : k ≡ before .risk .count
-              risk-at = place ∙ ap (placeAfter before) u
+    pub treaty-place : k < 8
+    treaty-place = omega (arith, treaty-at, treaty-few)
 
-              pub risk-place : k < 8
-              risk-place = omega (arith, risk-at, risk-few)
+    pub treaty-offset : Fits w64 (k * 56)
+    treaty-offset = omega (arith, treaty-place)
 
-              pub risk-offset : Fits w64 (k * 56)
-              risk-offset = omega (arith, risk-place)
+    pub treaty-enters : Going s (set ts k t) rs cs next (number + 1) (e + 1)
+    treaty-enters = rw (g .after, u, treaty-at) (record {
+      contracts = withContract (g .going .contracts) (Proportional t);
+      treaties = held-next _ _ _ _ _ (g .going .treaties) treaty-few t;
+      risk = g .going .risk;
+      cat = g .going .cat;
+      few-treaties = omega (arith, treaty-fine .number, g .going .few-treaties);
+      last-treaty = last-number;
+      few-risk = g .going .few-risk;
+      few-cat = g .going .few-cat;
+      within = still-inside;
+      early = as-early;
+      rest = ahead (kind.Proportional t) u;
+    })
 
-              pub risk-enters : Going s ts (set rs k t) cs next (number + 1) (e + 1)
-              risk-enters = rw (after, u, risk-at) (record {
-                contracts = withContract (g .contracts) (Risk t);
-                treaties = g .treaties;
-                risk = held-next _ _ _ _ _ (g .risk) risk-few t;
-                cat = g .cat;
-                few-treaties = g .few-treaties;
-                last-treaty = g .last-treaty;
-                few-risk = omega (arith, risk-few);
-                few-cat = g .few-cat;
-                within = omega arith;
-                early = omega (arith, g .early);
-                rest = ahead (Risk t) u;
-              })
+  -- a risk layer enters; 208 bytes a place
+  module _ (u : x ≡ kind.Risk) where
+    risk-few : before .risk .count < 8
+    risk-few = layer-faultless _ _ (read .terms) (faultless kind.Risk u) .few
 
-            -- a cat layer enters
-            module _ (t : Terms) (u : x ≡ Cat t) where
-              cat-few : before .cat .count < 8
-              cat-few = layer-faultless _ _ t (fine (Cat t) u) .few
+    risk-at : k ≡ before .risk .count
+    risk-at = g .place ∙ ap (placeAfter before) u
 
-              cat-at : k ≡ before .cat .count
-              cat-at = place ∙ ap (placeAfter before) u
+    pub risk-place : k < 8
+    risk-place = omega (arith, risk-at, risk-few)
 
-              pub cat-place : k < 8
-              cat-place = omega (arith, cat-at, cat-few)
+    pub risk-offset : Fits w64 (k * 208)
+    risk-offset = omega (arith, risk-place)
 
-              pub cat-offset : Fits w64 (k * 56)
-              cat-offset = omega (arith, cat-place)
+    pub risk-enters : Going s ts (set rs k (read .terms)) cs next (number + 1) (e + 1)
+    risk-enters = rw (g .after, u, risk-at) (record {
+      contracts = withContract (g .going .contracts) (Risk (read .terms));
+      treaties = g .going .treaties;
+      risk = held-next _ _ _ _ _ (g .going .risk) risk-few (read .terms);
+      cat = g .going .cat;
+      few-treaties = g .going .few-treaties;
+      last-treaty = g .going .last-treaty;
+      few-risk = omega (arith, risk-few);
+      few-cat = g .going .few-cat;
+      within = still-inside;
+      early = as-early;
+      rest = ahead kind.Risk u;
+    })
 
-              pub cat-enters : Going s ts rs (set cs k t) next (number + 1) (e + 1)
-              cat-enters = rw (after, u, cat-at) (record {
-                contracts = withContract (g .contracts) (Cat t);
-                treaties = g .treaties;
-                risk = g .risk;
-                cat = held-next _ _ _ _ _ (g .cat) cat-few t;
-                few-treaties = g .few-treaties;
-                last-treaty = g .last-treaty;
-                few-risk = g .few-risk;
-                few-cat = omega (arith, cat-few);
-                within = omega arith;
-                early = omega (arith, g .early);
-                rest = ahead (Cat t) u;
-              })
+  -- a cat layer enters
+  module _ (u : x ≡ kind.Cat) where
+    cat-few : before .cat .count < 8
+    cat-few = layer-faultless _ _ (read .terms) (faultless kind.Cat u) .few
+
+    cat-at : k ≡ before .cat .count
+    cat-at = g .place ∙ ap (placeAfter before) u
+
+    pub cat-place : k < 8
+    cat-place = omega (arith, cat-at, cat-few)
+
+    pub cat-offset : Fits w64 (k * 208)
+    cat-offset = omega (arith, cat-place)
+
+    pub cat-enters : Going s ts rs (set cs k (read .terms)) next (number + 1) (e + 1)
+    cat-enters = rw (g .after, u, cat-at) (record {
+      contracts = withContract (g .going .contracts) (Cat (read .terms));
+      treaties = g .going .treaties;
+      risk = g .going .risk;
+      cat = held-next _ _ _ _ _ (g .going .cat) cat-few (read .terms);
+      few-treaties = g .going .few-treaties;
+      last-treaty = g .going .last-treaty;
+      few-risk = g .going .few-risk;
+      few-cat = omega (arith, cat-few);
+      within = still-inside;
+      early = as-early;
+      rest = ahead kind.Cat u;
+    })
 
 -- a text of more than 8,192 bytes, and any other
 module _ (s : List ℕ) (r : Reading) where

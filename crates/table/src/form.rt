@@ -1,11 +1,23 @@
 // A line of a table as one of the four forms.
 ghost use mathlib.Core.Path.{_≡_};
-ghost use Rattle.table_text.specs.Forms.{kindOf, quotaForm, surplusForm, riskForm, catForm, termsFrom, formOf};
+ghost use Prim.Native.Nat.{_≤_};
+ghost use lib.ListN.{length, drop};
+ghost use Rattle.text.specs.Template.{holes, numbersBy};
+ghost use Rattle.programme.specs.Contracts.{contractOf};
+ghost use Rattle.table_text.specs.Forms.{kindOf, quotaForm, surplusForm, endText, layerNumbers};
+ghost use Rattle.table_text.specs.Forms.{formIf, formRead, formOf};
+ghost use Rattle.table.specs.LayerLine.{ratesAt, noRates, layerRead, noLayer};
+use layer::terms::RATES;
 use layer::terms::Terms;
-use programme::contract::Contract;
+use programme::contract;
+use programme::contract::Kind;
 use table_text::Form;
+use table_text::LineRead;
+use text::number;
+use text::number::Number;
 use text::template;
 use text::template::Numbers;
+use text::template::Place;
 use treaty::Treaty;
 
 // The kinds of a line are those of a treaty and these two.
@@ -34,9 +46,19 @@ fn kind(line: &[u8]) -> u64
     }
 }
 
+// A treaty of a line, or no form.
+fn treaty_line(form: Form) -> LineRead
+    ensures { λ r. ⌜ r .form ≡ form ⌝ }
+{
+    LineRead {
+        form,
+        terms: contract::no_terms(),
+    }
+}
+
 // The quota share of a line's numbers.
-fn quota(numbers: Numbers) -> Form
-    ensures { λ r. ⌜ r ≡ quotaForm numbers ⌝ }
+fn quota(numbers: Numbers) -> LineRead
+    ensures { λ r. ⌜ formRead r ≡ quotaForm numbers ⌝ }
 {
     if numbers.found {
         let v = numbers.values;
@@ -49,14 +71,14 @@ fn quota(numbers: Numbers) -> Form
             lines: 0,
             limit: v[3],
         };
-        return Form::Line(Contract::Proportional(treaty));
+        return treaty_line(Form::Line(Kind::Proportional(treaty)));
     }
-    Form::NoForm
+    treaty_line(Form::NoForm)
 }
 
 // The surplus of a line's numbers.
-fn surplus(numbers: Numbers) -> Form
-    ensures { λ r. ⌜ r ≡ surplusForm numbers ⌝ }
+fn surplus(numbers: Numbers) -> LineRead
+    ensures { λ r. ⌜ formRead r ≡ surplusForm numbers ⌝ }
 {
     if numbers.found {
         let v = numbers.values;
@@ -69,51 +91,140 @@ fn surplus(numbers: Numbers) -> Form
             lines: v[2],
             limit: v[3],
         };
-        return Form::Line(Contract::Proportional(treaty));
+        return treaty_line(Form::Line(Kind::Proportional(treaty)));
     }
-    Form::NoForm
+    treaty_line(Form::NoForm)
 }
 
-// A layer's terms from its line's numbers.
-fn terms(v: [u64; 8]) -> Terms
-    ensures { λ r. ⌜ r ≡ termsFrom v ⌝ }
+// The rates of a layer's line: the place after them, or that there are not as many, and the first twenty, with zeros
+// after them.
+struct RatesRead {
+    place: Place,
+    values: [u64; RATES],
+}
+
+// Not as many rates.
+fn no_rates() -> RatesRead
+    ensures { λ r. ⌜ r ≡ noRates ⌝ }
 {
-    Terms {
-        attachment: v[0],
-        limit: v[1],
-        deductible: v[2],
-        reinstatements: v[3],
-        rate: v[4],
-        premium: v[5],
-        placed: v[6],
+    RatesRead {
+        place: Place::Nowhere,
+        values: [0u64; RATES],
     }
 }
 
-// The risk layer of a line's numbers.
-fn risk(numbers: Numbers) -> Form
-    ensures { λ r. ⌜ r ≡ riskForm numbers ⌝ }
+// As many rates as a layer's K, from a place of its line on; past the twentieth they are counted and not kept. The
+// line's end ends them, whatever K is.
+fn rates(line: &[u8], at: usize, count: u64) -> RatesRead
+    requires { ⌜ at ≤ length (now line) ⌝ }
+    ensures { λ r. ⌜ r ≡ ratesAt (now (line .entry)) at count ⌝ }
 {
-    if numbers.found {
-        let v = numbers.values;
-        return Form::Line(Contract::Risk(terms(v)));
+    let mut values = [0u64; RATES];
+    let mut next = at;
+    let mut i: u64 = 0;
+    while i < count {
+        if line.len() <= next {
+            return no_rates();
+        }
+        if line[next] != b' ' {
+            return no_rates();
+        }
+        let Number::Value(rate, after) = number::read_short(line, next + 1) else {
+            return no_rates();
+        };
+        let k = i;
+        next = after;
+        i += 1;
+        if k < RATES as u64 {
+            values[k as usize] = rate;
+        }
     }
-    Form::NoForm
+    RatesRead {
+        place: Place::At(next),
+        values,
+    }
 }
 
-// The cat layer of a line's numbers.
-fn cat(numbers: Numbers) -> Form
-    ensures { λ r. ⌜ r ≡ catForm numbers ⌝ }
+// A layer's terms, where a line is its form.
+struct LayerRead {
+    found: bool,
+    terms: Terms,
+}
+
+// No layer.
+fn no_layer() -> LayerRead
+    ensures { λ r. ⌜ r ≡ noLayer ⌝ }
 {
-    if numbers.found {
-        let v = numbers.values;
-        return Form::Line(Contract::Cat(terms(v)));
+    LayerRead {
+        found: false,
+        terms: contract::no_terms(),
     }
-    Form::NoForm
+}
+
+// The end of a layer's line, from a place on.
+fn end(line: &[u8], at: usize) -> Numbers
+    requires { ⌜ at ≤ length (now line) ⌝ }
+    ensures { λ r. ⌜ r ≡ numbersBy endText (drop at (now (line .entry))) ⌝ }
+{
+    template::read_line(b") (placed S))", &line[at..])
+}
+
+// Reads a layer's line, by the beginning of its tier: K and the premium, as many rates, the placed share.
+fn layer(begin: &[u8], line: &[u8]) -> LayerRead
+    requires { ⌜ holes (now begin) ≡ 5 ⌝ }
+    ensures { λ r. ⌜ r ≡ layerRead (layerNumbers (now (begin .entry)) (now (line .entry))) ⌝ }
+{
+    let first = template::read_at(begin, line, 0);
+    let place = first.place;
+    let Place::At(at) = place else {
+        return no_layer();
+    };
+    let v = first.values;
+    let back = rates(line, at, v[3]);
+    let place = back.place;
+    let Place::At(after) = place else {
+        return no_layer();
+    };
+    let last = end(line, after);
+    if last.found {
+        let s = last.values;
+        let rates = back.values;
+        return LayerRead {
+            found: true,
+            terms: Terms {
+                attachment: v[0],
+                limit: v[1],
+                deductible: v[2],
+                reinstatements: v[3],
+                premium: v[4],
+                placed: s[0],
+                rates,
+            },
+        };
+    }
+    no_layer()
+}
+
+// A layer's line of a kind, or no form.
+fn layer_line(read: LayerRead, kind: Kind) -> LineRead
+    ensures { λ r. ⌜ formRead r ≡ formIf (read .found) (contractOf kind (read .terms)) ⌝ }
+{
+    let terms = read.terms;
+    if read.found {
+        return LineRead {
+            form: Form::Line(kind),
+            terms,
+        };
+    }
+    LineRead {
+        form: Form::NoForm,
+        terms,
+    }
 }
 
 // Reads a line.
-pub fn read(line: &[u8]) -> Form
-    ensures { λ r. ⌜ r ≡ formOf (now (line .entry)) ⌝ }
+pub fn read(line: &[u8]) -> LineRead
+    ensures { λ r. ⌜ formRead r ≡ formOf (now (line .entry)) ⌝ }
 {
     let k = kind(line);
     match k {
@@ -125,14 +236,14 @@ pub fn read(line: &[u8]) -> Form
             b"(surplus T (retain R) (lines N) (event L))",
             line,
         )),
-        RISK => risk(template::read_line(
-            b"(risk (band A L) (deduct D) (back K Q P) (placed S))",
-            line,
-        )),
-        CAT => cat(template::read_line(
-            b"(cat (band A L) (deduct D) (back K Q P) (placed S))",
-            line,
-        )),
-        _ => Form::NoForm,
+        RISK => layer_line(
+            layer(b"(risk (band A L) (deduct D) (back K P", line),
+            Kind::Risk,
+        ),
+        CAT => layer_line(
+            layer(b"(cat (band A L) (deduct D) (back K P", line),
+            Kind::Cat,
+        ),
+        _ => treaty_line(Form::NoForm),
     }
 }

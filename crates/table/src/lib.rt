@@ -10,7 +10,7 @@ ghost use Rattle.table.specs.LineByLine.{readPlaces};
 use answer::Answer;
 use layer::terms::Terms;
 use programme::contract;
-use programme::contract::Contract;
+use programme::contract::Kind;
 use programme::contract::Layers;
 use programme::contract::PLACES;
 use programme::contract::Programme;
@@ -91,20 +91,23 @@ fn read_lines(text: &[u8]) -> Reading
         if end == text.len() {
             return refused(NOT_A_TABLE_FORM, number);
         }
-        let Form::Line(contract) = form::read(&text[at..end]) else {
+        let read = form::read(&text[at..end]);
+        let form = read.form;
+        let Form::Line(kind) = form else {
             return refused(NOT_A_TABLE_FORM, number);
         };
-        let fault = before.fault(contract);
+        let terms = read.terms;
+        let fault = before.fault(kind, terms);
         if fault != 0 {
             return refused(fault, number);
         }
         at = end + 1;
-        let k = before.place(contract);
-        before = before.after(contract);
-        match contract {
-            Contract::Proportional(treaty) => treaties[k] = treaty,
-            Contract::Risk(terms) => risk[k] = terms,
-            Contract::Cat(terms) => cat[k] = terms,
+        let k = before.place(kind);
+        before = before.after(kind, terms);
+        match kind {
+            Kind::Proportional(treaty) => treaties[k] = treaty,
+            Kind::Risk => risk[k] = terms,
+            Kind::Cat => cat[k] = terms,
         }
     }
     accepted(treaties, risk, cat, before)

@@ -3,14 +3,15 @@ ghost use mathlib.Core.List.{[], _∷_, _++_, map};
 ghost use mathlib.Core.Path.{_≡_};
 ghost use mathlib.Core.Bool.{true};
 ghost use Prim.Native.Nat.{_+_, _^_, _≤_, _<_};
-ghost use lib.ListN.{length};
+ghost use lib.ListN.{length, take};
 ghost use Rattle.text.specs.Buffer.{Put};
 ghost use Rattle.text.specs.Lines.{joined};
 ghost use Rattle.text.specs.Template.{holes, filled};
 ghost use Rattle.programme.specs.Contracts.{treatiesIn, layersIn};
-ghost use Rattle.programme.specs.Valid.{valid};
-ghost use Rattle.table_text.specs.Forms.{treatyLine, termsLine};
+ghost use Rattle.programme.specs.Valid.{validLayers, valid};
+ghost use Rattle.table_text.specs.Forms.{rateText, ratesText, treatyLine, termsLine};
 ghost use Rattle.table_text.specs.Write.{textOf};
+use layer::terms::RATES;
 use layer::terms::Terms;
 use programme::contract::Layers;
 use programme::contract::Programme;
@@ -68,40 +69,64 @@ fn put_treaties(out: &mut [u8], at: usize, treaties: Treaties) -> usize
     next
 }
 
-// A layer's line, by the template of its tier.
-fn put_terms(out: &mut [u8], at: usize, template: &[u8], l: Terms) -> usize
-    requires { ⌜ (at < 2 ^ 60) × (holes (now template) ≤ 7) × (length (now template) < 60) ⌝ }
-    ensures { λ r. ⌜ Put (now (out .entry)) at (termsLine (now (template .entry)) l ++ (10 ∷ [])) (now (out .exit)) r
-        × (r ≤ at + 1200) ⌝ }
+// One rate of a layer's reinstatements.
+fn put_rate(out: &mut [u8], at: usize, rate: u64) -> usize
+    requires { ⌜ at < 2 ^ 61 ⌝ }
+    ensures { λ r. ⌜ Put (now (out .entry)) at (filled rateText (rate ∷ []) []) (now (out .exit)) r × (r ≤ at + 40) ⌝ }
 {
-    put_line(
+    template::put(out, at, b" Q", &[rate])
+}
+
+// All in use.
+fn put_rates(out: &mut [u8], at: usize, rates: [u64; RATES], count: usize) -> usize
+    requires { ⌜ (at < 2 ^ 60) × (count ≤ 20) ⌝ }
+    ensures { λ r. ⌜ Put (now (out .entry)) at (filled (ratesText count) (take count rates) []) (now (out .exit)) r
+        × (r ≤ at + 800) ⌝ }
+{
+    let mut next = at;
+    let mut i: usize = 0;
+    while i < count {
+        next = put_rate(out, next, rates[i]);
+        i += 1;
+    }
+    next
+}
+
+// A layer's line, by the beginning of its tier: as many rates as its K.
+fn put_terms(out: &mut [u8], at: usize, begin: &[u8], l: Terms) -> usize
+    requires { ⌜ (at < 2 ^ 59) × (holes (now begin) ≡ 5) × (length (now begin) < 60) × (l .reinstatements ≤ 20) ⌝ }
+    ensures { λ r. ⌜ Put (now (out .entry)) at (termsLine (now (begin .entry)) l ++ (10 ∷ [])) (now (out .exit)) r
+        × (r ≤ at + 3200) ⌝ }
+{
+    let first = template::put(
         out,
         at,
-        template,
+        begin,
         &[
             l.attachment,
             l.limit,
             l.deductible,
             l.reinstatements,
-            l.rate,
             l.premium,
-            l.placed,
         ],
-    )
+    );
+    let rates = l.rates;
+    let second = put_rates(out, first, rates, l.reinstatements as usize);
+    put_line(out, second, b") (placed S))", &[l.placed])
 }
 
 // The lines of a tier's layers.
-fn put_layers(out: &mut [u8], at: usize, template: &[u8], layers: Layers) -> usize
-    requires { ⌜ (at < 2 ^ 32) × (layers .count ≤ 8) × (holes (now template) ≤ 7) × (length (now template) < 60) ⌝ }
-    ensures { λ r. ⌜ Put (now (out .entry)) at (joined (map (termsLine (now (template .entry))) (layersIn layers)))
-        (now (out .exit)) r × (r ≤ at + 9600) ⌝ }
+fn put_layers(out: &mut [u8], at: usize, begin: &[u8], layers: Layers) -> usize
+    requires { ⌜ (at < 2 ^ 32) × (validLayers layers ≡ true) × (holes (now begin) ≡ 5) × (length (now begin) < 60) ⌝ }
+    ensures { λ r. ⌜ Put (now (out .entry)) at (joined (map (termsLine (now (begin .entry))) (layersIn layers)))
+        (now (out .exit)) r × (r ≤ at + 25600) ⌝ }
 {
     let count = layers.count;
     let mut next = at;
     let mut i: usize = 0;
     while i < count {
         let l = layers.places[i];
-        next = put_terms(out, next, template, l);
+        next = put_terms(out, next, begin, l);
         i += 1;
     }
     next
@@ -116,16 +141,6 @@ pub fn put_table(out: &mut [u8], programme: Programme) -> usize
     let risk = programme.risk;
     let cat = programme.cat;
     let first = put_treaties(out, 0, treaties);
-    let second = put_layers(
-        out,
-        first,
-        b"(risk (band A L) (deduct D) (back K Q P) (placed S))",
-        risk,
-    );
-    put_layers(
-        out,
-        second,
-        b"(cat (band A L) (deduct D) (back K Q P) (placed S))",
-        cat,
-    )
+    let second = put_layers(out, first, b"(risk (band A L) (deduct D) (back K P", risk);
+    put_layers(out, second, b"(cat (band A L) (deduct D) (back K P", cat)
 }

@@ -15,12 +15,12 @@ use Rattle.layer.specs.Layer.{termsOf}
 use Rattle.answer.specs.Outcome.{refused, written, textOnly, fitted, answerOf, bufferAfter}
 use Rattle.programme.specs.declared.contract.Programme.{Programme}
 use Rattle.programme.specs.Contracts.{Contracts, noContracts, noTreaty, noTerms, programmeOf}
-use Rattle.programme.specs.Ranges.{outside, treatyOutside, termsOutside, treatyNotZero, termsNotZero}
+use Rattle.programme.specs.Ranges.{outside, treatyOutside, ratesOutside, termsOutside, treatyNotZero, termsNotZero}
 use Rattle.programme.specs.Rules.{treatyFault, layerFault}
 use Rattle.programme.specs.Valid.{validTreaties, validLayers, valid}
 use Rattle.programme.proofs.Corners.{zeroTerms, nothingHeld, allContracts, allHeld, eightTerms, withRisk}
 use Rattle.table_text.specs.declared.Reading.{Reading}
-use Rattle.table_text.specs.Forms.{kindOf, formOfKind, formOf, treatyLine}
+use Rattle.table_text.specs.Forms.{ratesText, layerNumbers, kindOf, formOfKind, formOf, treatyLine}
 use Rattle.table_text.specs.Read.{refusedAt, readAs, readFrom, readOf}
 use Rattle.table_text.specs.Write.{writeOf}
 
@@ -31,52 +31,44 @@ text ls = joined (map bytes ls)
 abbrev reading : List String → Reading
 reading ls = readOf (text ls)
 
--- a table with every form, and what it reads to
-abbrev allForms : List String
-allForms =
-    "(quota 2 (cede 4000) (capacity 20000) (event 15000))"
-    ∷ "(surplus 5 (retain 10000) (lines 3) (event 0))"
-    ∷ "(risk (band 50 51) (deduct 7) (back 1 20000 9) (placed 3333))"
-    ∷ "(cat (band 40 60) (deduct 0) (back 20 5000 1000000000000) (placed 7200))" ∷ []
-
--- the table of document 01's H1
+-- the table of document 01's H1, its lines rewritten as Q-2 says
 abbrev sidney : List String
 sidney =
-    "(cat (band 25000000 75000000) (deduct 75000000) (back 0 0 0) (placed 10000))"
-    ∷ "(cat (band 100000000 150000000) (deduct 0) (back 1 5000 75000000) (placed 8000))"
-    ∷ "(cat (band 250000000 150000000) (deduct 0) (back 1 10000 30000000) (placed 7200))" ∷ []
+    "(cat (band 25000000 75000000) (deduct 75000000) (back 0 0) (placed 10000))"
+    ∷ "(cat (band 100000000 150000000) (deduct 0) (back 1 75000000 5000) (placed 8000))"
+    ∷ "(cat (band 250000000 150000000) (deduct 0) (back 1 30000000 10000) (placed 7200))" ∷ []
 
 abbrev sidneyContracts : Contracts
 sidneyContracts = record {
   treaties = [];
   risk = [];
-  cat = termsOf 25000000 75000000 75000000 0 0 0 10000 ∷ termsOf 100000000 150000000 0 1 5000 75000000 8000
-      ∷ termsOf 250000000 150000000 0 1 10000 30000000 7200 ∷ [];
+  cat = termsOf 25000000 75000000 75000000 0 0 [] 10000 ∷ termsOf 100000000 150000000 0 1 75000000 (5000 ∷ []) 8000
+      ∷ termsOf 250000000 150000000 0 1 30000000 (10000 ∷ []) 7200 ∷ [];
 }
 
 -- eight risk layers, each at the end of the band before
 abbrev eightRisks : List String
 eightRisks =
-    "(risk (band 0 10) (deduct 0) (back 0 0 0) (placed 3333))"
-    ∷ "(risk (band 10 20) (deduct 0) (back 0 0 0) (placed 3333))"
-    ∷ "(risk (band 30 5) (deduct 0) (back 0 0 0) (placed 3333))"
-    ∷ "(risk (band 35 1) (deduct 0) (back 0 0 0) (placed 3333))"
-    ∷ "(risk (band 36 4) (deduct 0) (back 0 0 0) (placed 3333))"
-    ∷ "(risk (band 40 2) (deduct 0) (back 0 0 0) (placed 3333))"
-    ∷ "(risk (band 42 8) (deduct 0) (back 0 0 0) (placed 3333))"
-    ∷ "(risk (band 50 50) (deduct 0) (back 0 0 0) (placed 3333))" ∷ []
+    "(risk (band 0 10) (deduct 0) (back 0 0) (placed 3333))"
+    ∷ "(risk (band 10 20) (deduct 0) (back 0 0) (placed 3333))"
+    ∷ "(risk (band 30 5) (deduct 0) (back 0 0) (placed 3333))"
+    ∷ "(risk (band 35 1) (deduct 0) (back 0 0) (placed 3333))"
+    ∷ "(risk (band 36 4) (deduct 0) (back 0 0) (placed 3333))"
+    ∷ "(risk (band 40 2) (deduct 0) (back 0 0) (placed 3333))"
+    ∷ "(risk (band 42 8) (deduct 0) (back 0 0) (placed 3333))"
+    ∷ "(risk (band 50 50) (deduct 0) (back 0 0) (placed 3333))" ∷ []
 
 -- eight cat layers, each at the end of the band before
 abbrev eightCats : List String
 eightCats =
-    "(cat (band 7 3) (deduct 0) (back 0 0 0) (placed 7200))"
-    ∷ "(cat (band 10 20) (deduct 0) (back 0 0 0) (placed 7200))"
-    ∷ "(cat (band 30 5) (deduct 0) (back 0 0 0) (placed 7200))"
-    ∷ "(cat (band 35 1) (deduct 0) (back 0 0 0) (placed 7200))"
-    ∷ "(cat (band 36 4) (deduct 0) (back 0 0 0) (placed 7200))"
-    ∷ "(cat (band 40 2) (deduct 0) (back 0 0 0) (placed 7200))"
-    ∷ "(cat (band 42 8) (deduct 0) (back 0 0 0) (placed 7200))"
-    ∷ "(cat (band 50 150) (deduct 0) (back 0 0 0) (placed 7200))" ∷ []
+    "(cat (band 7 3) (deduct 0) (back 0 0) (placed 7200))"
+    ∷ "(cat (band 10 20) (deduct 0) (back 0 0) (placed 7200))"
+    ∷ "(cat (band 30 5) (deduct 0) (back 0 0) (placed 7200))"
+    ∷ "(cat (band 35 1) (deduct 0) (back 0 0) (placed 7200))"
+    ∷ "(cat (band 36 4) (deduct 0) (back 0 0) (placed 7200))"
+    ∷ "(cat (band 40 2) (deduct 0) (back 0 0) (placed 7200))"
+    ∷ "(cat (band 42 8) (deduct 0) (back 0 0) (placed 7200))"
+    ∷ "(cat (band 50 150) (deduct 0) (back 0 0) (placed 7200))" ∷ []
 
 -- programmes that hold nothing but these places of another kind than risk, n of them used
 abbrev withTreaties : ℕ → List Treaty → Programme
@@ -102,29 +94,47 @@ oneTreaty k r =
     record { kind = k; number = 1; cede = 4000; capacity = 0; retention = r; lines = 0; limit = 0 }
     ∷ replicate 7 noTreaty
 
--- the programme of every form, but for a cat limit of 0: no table text reads to it
+-- the programme of every form, but with a cat layer whose limit is 0: no table text reads to it
 abbrev notLawful : Programme
 notLawful = record {
   treaties = allHeld .treaties;
   risk = allHeld .risk;
   cat = record {
-    places = termsOf 40 0 0 20 5000 1000000000000 7200 ∷ replicate 7 zeroTerms;
+    places = termsOf 40 0 0 1 1000000000000 (5000 ∷ []) 7200 ∷ replicate 7 zeroTerms;
     count = 1;
   };
 }
 
--- the 235 bytes of the table of every form
+-- the 311 bytes of the table of every form
 abbrev allBytes : List ℕ
 allBytes =
     bytes "(quota 2 (cede 4000) (capacity 20000) (event 15000))\n"
     ++ bytes "(surplus 5 (retain 10000) (lines 3) (event 0))\n"
-    ++ bytes "(risk (band 50 51) (deduct 7) (back 1 20000 9) (placed 3333))\n"
-    ++ bytes "(cat (band 40 60) (deduct 0) (back 20 5000 1000000000000) (placed 7200))\n"
+    ++ bytes "(risk (band 50 51) (deduct 7) (back 1 9 20000) (placed 3333))\n"
+    ++ bytes "(cat (band 40 60) (deduct 0) (back 20 1000000000000 5000 1 20000 7 10000 3333 9999 12"
+    ++ bytes " 15000 2 750 19999 40 6000 8 2500 11111 90 17 3) (placed 7200))\n"
 
 -- two lines of 42 bytes, the second with the T of the first
 abbrev twice : List ℕ
 twice =
     bytes "(quota 3 (cede 0) (capacity 0) (event 0))\n" ++ bytes "(quota 3 (cede 0) (capacity 0) (event 1))\n"
+
+-- a text of one cat layer's line, by what is in its back, and the programme of such a layer: its K, its premium, and
+-- its rates in twenty places
+abbrev backText : String → List ℕ
+backText back = bytes "(cat (band 40 60) (deduct 11) (back " ++ bytes back ++ bytes ") (placed 7200))\n"
+
+abbrev oneCat : (k p : ℕ) → List ℕ → Programme
+oneCat k p qs =
+    withCat 1 (record {
+      attachment = 40;
+      limit = 60;
+      deductible = 11;
+      reinstatements = k;
+      premium = p;
+      placed = 7200;
+      rates = qs;
+    } ∷ replicate 7 zeroTerms)
 
 pub record Corners : Type 0 where
   -- What reading answers, typed out to the places: a programme with its contracts in the first of eight ..
@@ -135,26 +145,26 @@ pub record Corners : Type 0 where
   pub answer-range : readOf (bytes "(quota 9 (cede 0) (capacity 0) (event 0))\n")
       ≡ record { refusal = 3; line = 1; programme = nothingHeld }
   pub answer-order : readOf twice ≡ record { refusal = 4; line = 2; programme = nothingHeld }
-  pub answer-band : readOf (bytes "(risk (band 7 3) (deduct 0) (back 0 0 0) (placed 0))\n"
-      ++ bytes "(cat (band 50 50) (deduct 0) (back 0 0 0) (placed 0))\n"
-      ++ bytes "(cat (band 99 1) (deduct 0) (back 0 0 0) (placed 0))\n")
+  pub answer-band : readOf (bytes "(risk (band 7 3) (deduct 0) (back 0 0) (placed 0))\n"
+      ++ bytes "(cat (band 50 50) (deduct 0) (back 0 0) (placed 0))\n"
+      ++ bytes "(cat (band 99 1) (deduct 0) (back 0 0) (placed 0))\n")
       ≡ record { refusal = 5; line = 3; programme = nothingHeld }
   -- 84 bytes of two lines, and others after them up to 8,192: judged by its lines, and by 1 with one byte more
   pub answer-not-long : readOf (twice ++ replicate 8108 120)
       ≡ record { refusal = 4; line = 2; programme = nothingHeld }
   pub answer-long : readOf (twice ++ replicate 8109 120) ≡ record { refusal = 1; line = 0; programme = nothingHeld }
   -- what writing answers, and the buffer after it: the text before the bytes left, or as lent
-  pub answer-written : answerOf (writeOf allHeld 240) ≡ record { refusal = 0; number = 235 }
-  pub answer-exact : answerOf (writeOf allHeld 235) ≡ record { refusal = 0; number = 235 }
-  pub answer-short : answerOf (writeOf allHeld 234) ≡ record { refusal = 7; number = 235 }
-  pub answer-not-lawful : answerOf (writeOf notLawful 240) ≡ record { refusal = 6; number = 0 }
-  pub buffer-written : bufferAfter (writeOf allHeld 240) (replicate 240 7) ≡ allBytes ++ (7 ∷ 7 ∷ 7 ∷ 7 ∷ 7 ∷ [])
-  pub buffer-exact : bufferAfter (writeOf allHeld 235) (replicate 235 7) ≡ allBytes
-  pub buffer-short : bufferAfter (writeOf allHeld 234) (replicate 234 7) ≡ replicate 234 7
-  pub buffer-not-lawful : bufferAfter (writeOf notLawful 240) (replicate 240 7) ≡ replicate 240 7
+  pub answer-written : answerOf (writeOf allHeld 316) ≡ record { refusal = 0; number = 311 }
+  pub answer-exact : answerOf (writeOf allHeld 311) ≡ record { refusal = 0; number = 311 }
+  pub answer-short : answerOf (writeOf allHeld 310) ≡ record { refusal = 7; number = 311 }
+  pub answer-not-lawful : answerOf (writeOf notLawful 316) ≡ record { refusal = 6; number = 0 }
+  pub buffer-written : bufferAfter (writeOf allHeld 316) (replicate 316 7) ≡ allBytes ++ (7 ∷ 7 ∷ 7 ∷ 7 ∷ 7 ∷ [])
+  pub buffer-exact : bufferAfter (writeOf allHeld 311) (replicate 311 7) ≡ allBytes
+  pub buffer-short : bufferAfter (writeOf allHeld 310) (replicate 310 7) ≡ replicate 310 7
+  pub buffer-not-lawful : bufferAfter (writeOf notLawful 316) (replicate 316 7) ≡ replicate 316 7
   -- no line, every form, and the table of H1
   pub empty : reading [] ≡ readAs (programmeOf noContracts)
-  pub every-form : reading allForms ≡ readAs (programmeOf allContracts)
+  pub every-form : readOf allBytes ≡ readAs (programmeOf allContracts)
   pub H1 : reading sidney ≡ readAs (programmeOf sidneyContracts)
   -- 1 and its 0; a text of 8,192 bytes is read
   pub long : readOf (replicate 8193 10) ≡ refusedAt 1 0
@@ -168,25 +178,44 @@ pub record Corners : Type 0 where
   pub number-0 : reading ("(quota 0 (cede 0) (capacity 0) (event 0))" ∷ []) ≡ refusedAt 3 1
   pub number-9 : reading ("(surplus 9 (retain 0) (lines 0) (event 0))" ∷ []) ≡ refusedAt 3 1
   pub sixteen-digits : reading ("(quota 1 (cede 9999999999999999) (capacity 0) (event 0))" ∷ []) ≡ refusedAt 3 1
+  -- a layer's K, its premium and as many rates: none, one, two, and at most twenty
+  pub rates-none : readOf (backText "0 9") ≡ readAs (oneCat 0 9 (replicate 20 0))
+  pub rates-one : readOf (backText "1 5000 10000") ≡ readAs (oneCat 1 5000 (10000 ∷ replicate 19 0))
+  pub rates-two : readOf (backText "2 7 20000 0") ≡ readAs (oneCat 2 7 (20000 ∷ 0 ∷ replicate 18 0))
+  pub rates-ten : readOf (backText "10 7 1 2 3 4 5 6 7 8 9 10")
+      ≡ readAs (oneCat 10 7 (1 ∷ 2 ∷ 3 ∷ 4 ∷ 5 ∷ 6 ∷ 7 ∷ 8 ∷ 9 ∷ 10 ∷ replicate 10 0))
+  -- 2: a rate less or more than K, also where K itself is out of range; a blank without a number
+  pub rate-missing : readOf (backText "2 7 20000") ≡ refusedAt 2 1
+  pub rate-more : readOf (backText "2 7 20000 0 0") ≡ refusedAt 2 1
+  pub rate-of-none : readOf (backText "0 0 0") ≡ refusedAt 2 1
+  pub rate-blank : readOf (backText "0 0 ") ≡ refusedAt 2 1
+  pub rates-of-21 : readOf (backText "21 0 1 2 3 4 5 6 7 8 9 10 11 12 13 14 15 16 17 18 19 20") ≡ refusedAt 2 1
+  pub rates-of-many : readOf (backText "9999999999999999 0 1 2 3") ≡ refusedAt 2 1
+  pub rate-of-17-digits : readOf (backText "1 0 10000000000000000") ≡ refusedAt 2 1
+  -- 3: twenty-one rates, and a rate above 20,000: one of sixteen digits too, and a premium in the place of a rate
+  pub rates-21 : readOf (backText "21 0 1 2 3 4 5 6 7 8 9 10 11 12 13 14 15 16 17 18 19 20 21") ≡ refusedAt 3 1
+  pub rate-high : readOf (backText "2 0 20000 20001") ≡ refusedAt 3 1
+  pub rate-of-16-digits : readOf (backText "1 0 9999999999999999") ≡ refusedAt 3 1
+  pub rate-and-premium : readOf (backText "1 5000 75000000") ≡ refusedAt 3 1
   -- 4: a treaty after a layer, a risk layer after a cat layer, T not above the one before
   pub treaty-late :
-      reading ("(cat (band 0 1) (deduct 0) (back 0 0 0) (placed 0))"
+      reading ("(cat (band 0 1) (deduct 0) (back 0 0) (placed 0))"
       ∷ "(quota 1 (cede 0) (capacity 0) (event 0))" ∷ [])
       ≡ refusedAt 4 2
   pub risk-late :
-      reading ("(cat (band 0 1) (deduct 0) (back 0 0 0) (placed 0))"
-      ∷ "(risk (band 9 1) (deduct 0) (back 0 0 0) (placed 0))" ∷ [])
+      reading ("(cat (band 0 1) (deduct 0) (back 0 0) (placed 0))"
+      ∷ "(risk (band 9 1) (deduct 0) (back 0 0) (placed 0))" ∷ [])
       ≡ refusedAt 4 2
   pub same-number :
       reading ("(quota 3 (cede 0) (capacity 0) (event 0))"
       ∷ "(surplus 3 (retain 0) (lines 0) (event 0))" ∷ [])
       ≡ refusedAt 4 2
   pub treaty-after-risk :
-      reading ("(risk (band 0 1) (deduct 0) (back 0 0 0) (placed 0))"
+      reading ("(risk (band 0 1) (deduct 0) (back 0 0) (placed 0))"
       ∷ "(quota 1 (cede 0) (capacity 0) (event 0))" ∷ [])
       ≡ refusedAt 4 2
   pub surplus-after-risk :
-      reading ("(risk (band 0 1) (deduct 0) (back 0 0 0) (placed 0))"
+      reading ("(risk (band 0 1) (deduct 0) (back 0 0) (placed 0))"
       ∷ "(surplus 1 (retain 0) (lines 0) (event 0))" ∷ [])
       ≡ refusedAt 4 2
   pub falling-number :
@@ -196,62 +225,64 @@ pub record Corners : Type 0 where
   -- eight layers of a tier, and a ninth, at the end of the band before or below it
   pub eight-layers : reading eightRisks ≡ readAs (withRisk 8 eightTerms)
   pub ninth-layer :
-      reading (eightRisks ++ ("(risk (band 100 1) (deduct 0) (back 0 0 0) (placed 0))" ∷ [])) ≡ refusedAt 4 9
+      reading (eightRisks ++ ("(risk (band 100 1) (deduct 0) (back 0 0) (placed 0))" ∷ [])) ≡ refusedAt 4 9
   pub ninth-and-overlapping :
-      reading (eightRisks ++ ("(risk (band 99 1) (deduct 0) (back 0 0 0) (placed 0))" ∷ [])) ≡ refusedAt 4 9
+      reading (eightRisks ++ ("(risk (band 99 1) (deduct 0) (back 0 0) (placed 0))" ∷ [])) ≡ refusedAt 4 9
   pub ninth-far-below :
-      reading (eightRisks ++ ("(risk (band 0 1) (deduct 0) (back 0 0 0) (placed 0))" ∷ [])) ≡ refusedAt 4 9
+      reading (eightRisks ++ ("(risk (band 0 1) (deduct 0) (back 0 0) (placed 0))" ∷ [])) ≡ refusedAt 4 9
   pub ninth-cat :
-      reading (eightCats ++ ("(cat (band 200 1) (deduct 0) (back 0 0 0) (placed 0))" ∷ [])) ≡ refusedAt 4 9
+      reading (eightCats ++ ("(cat (band 200 1) (deduct 0) (back 0 0) (placed 0))" ∷ [])) ≡ refusedAt 4 9
   pub ninth-cat-and-overlapping :
-      reading (eightCats ++ ("(cat (band 199 1) (deduct 0) (back 0 0 0) (placed 0))" ∷ [])) ≡ refusedAt 4 9
+      reading (eightCats ++ ("(cat (band 199 1) (deduct 0) (back 0 0) (placed 0))" ∷ [])) ≡ refusedAt 4 9
   pub late-and-overlapping :
-      reading ("(risk (band 50 50) (deduct 0) (back 0 0 0) (placed 0))"
-      ∷ "(cat (band 0 1) (deduct 0) (back 0 0 0) (placed 0))"
-      ∷ "(risk (band 99 1) (deduct 0) (back 0 0 0) (placed 0))" ∷ [])
+      reading ("(risk (band 50 50) (deduct 0) (back 0 0) (placed 0))"
+      ∷ "(cat (band 0 1) (deduct 0) (back 0 0) (placed 0))"
+      ∷ "(risk (band 99 1) (deduct 0) (back 0 0) (placed 0))" ∷ [])
       ≡ refusedAt 4 3
   -- 5: bands 50 50 then 100 1 accepted, 50 50 then 99 1 refused
   pub touching :
-      reading ("(risk (band 50 50) (deduct 0) (back 0 0 0) (placed 0))"
-      ∷ "(risk (band 100 1) (deduct 0) (back 0 0 0) (placed 0))" ∷ [])
+      reading ("(risk (band 50 50) (deduct 0) (back 0 0) (placed 0))"
+      ∷ "(risk (band 100 1) (deduct 0) (back 0 0) (placed 0))" ∷ [])
       ≡ readAs (programmeOf (record {
         treaties = [];
-        risk = termsOf 50 50 0 0 0 0 0 ∷ termsOf 100 1 0 0 0 0 0 ∷ [];
+        risk = termsOf 50 50 0 0 0 [] 0 ∷ termsOf 100 1 0 0 0 [] 0 ∷ [];
         cat = [];
       }))
   pub overlapping :
-      reading ("(risk (band 50 50) (deduct 0) (back 0 0 0) (placed 0))"
-      ∷ "(risk (band 99 1) (deduct 0) (back 0 0 0) (placed 0))" ∷ [])
+      reading ("(risk (band 50 50) (deduct 0) (back 0 0) (placed 0))"
+      ∷ "(risk (band 99 1) (deduct 0) (back 0 0) (placed 0))" ∷ [])
       ≡ refusedAt 5 2
   -- a risk layer's band does not bind the first cat layer
   pub other-tier :
-      reading ("(risk (band 50 50) (deduct 0) (back 0 0 0) (placed 0))"
-      ∷ "(cat (band 99 1) (deduct 0) (back 0 0 0) (placed 0))" ∷ [])
+      reading ("(risk (band 50 50) (deduct 0) (back 0 0) (placed 0))"
+      ∷ "(cat (band 99 1) (deduct 0) (back 0 0) (placed 0))" ∷ [])
       ≡ readAs (programmeOf (record {
         treaties = [];
-        risk = termsOf 50 50 0 0 0 0 0 ∷ [];
-        cat = termsOf 99 1 0 0 0 0 0 ∷ [];
+        risk = termsOf 50 50 0 0 0 [] 0 ∷ [];
+        cat = termsOf 99 1 0 0 0 [] 0 ∷ [];
       }))
   -- the lowest number on one line; the first line from the top
   pub range-before-order :
-      reading ("(cat (band 0 1) (deduct 0) (back 0 0 0) (placed 0))"
+      reading ("(cat (band 0 1) (deduct 0) (back 0 0) (placed 0))"
       ∷ "(quota 9 (cede 0) (capacity 0) (event 0))" ∷ []) ≡ refusedAt 3 2
   pub first-line : reading ("(quota 9 (cede 0) (capacity 0) (event 0))" ∷ "none" ∷ []) ≡ refusedAt 3 1
   pub band-before-form :
-      reading ("(cat (band 50 50) (deduct 0) (back 0 0 0) (placed 0))"
-      ∷ "(cat (band 99 1) (deduct 0) (back 0 0 0) (placed 0))"
+      reading ("(cat (band 50 50) (deduct 0) (back 0 0) (placed 0))"
+      ∷ "(cat (band 99 1) (deduct 0) (back 0 0) (placed 0))"
       ∷ "none" ∷ [])
       ≡ refusedAt 5 2
   -- writing: the text, its length with 7
   pub writes : writeOf (programmeOf sidneyContracts) 240 ≡ written (text sidney) textOnly
-  pub exactly : writeOf (programmeOf allContracts) 235 ≡ written (text allForms) textOnly
-  pub one-short : writeOf (programmeOf allContracts) 234 ≡ refused 7 235
+  pub exactly : writeOf (programmeOf allContracts) 311 ≡ written allBytes textOnly
+  pub one-short : writeOf (programmeOf allContracts) 310 ≡ refused 7 311
   pub no-lines : writeOf (programmeOf noContracts) 0 ≡ written [] textOnly
+  pub writes-none : writeOf (oneCat 0 9 (replicate 20 0)) 100 ≡ written (backText "0 9") textOnly
+  pub writes-two : writeOf (oneCat 2 7 (20000 ∷ 0 ∷ replicate 18 0)) 100 ≡ written (backText "2 7 20000 0") textOnly
   -- 6: a range, unused places that are not 0, kinds, a term of the other kind
-  pub limit-1 : writeOf (withRisk 1 (alone (termsOf 0 1 0 0 0 0 0))) 0 ≡ refused 7 53
-  pub limit-0 : writeOf (withRisk 1 (alone (termsOf 0 0 0 0 0 0 0))) 0 ≡ refused 6 0
-  pub unused-risk : writeOf (withRisk 0 (alone (termsOf 0 1 0 0 0 0 0))) 1000 ≡ refused 6 0
-  pub unused-cat : writeOf (withCat 0 (alone (termsOf 0 0 0 0 0 0 1))) 1000 ≡ refused 6 0
+  pub limit-1 : writeOf (withRisk 1 (alone (termsOf 0 1 0 0 0 [] 0))) 0 ≡ refused 7 51
+  pub limit-0 : writeOf (withRisk 1 (alone (termsOf 0 0 0 0 0 [] 0))) 0 ≡ refused 6 0
+  pub unused-risk : writeOf (withRisk 0 (alone (termsOf 0 1 0 0 0 [] 0))) 1000 ≡ refused 6 0
+  pub unused-cat : writeOf (withCat 0 (alone (termsOf 0 0 0 0 0 [] 1))) 1000 ≡ refused 6 0
   pub unused-treaty : writeOf (withTreaties 0 (oneTreaty 1 0)) 1000 ≡ refused 6 0
   pub quota-written : writeOf (withTreaties 1 (oneTreaty 1 0)) 0 ≡ refused 7 45
   pub kind-0 : writeOf (withTreaties 1 (oneTreaty 0 0)) 1000 ≡ refused 6 0
@@ -261,8 +292,8 @@ pub record Corners : Type 0 where
 
 pub corners : Corners
 unfolding printedBy printed digitOf readOn number capital filled matched wholeOf lineNumbers linesOf outside
-    treatyOutside termsOutside treatyNotZero termsNotZero kindOf formOfKind formOf treatyLine treatyFault layerFault
-    readFrom readOf validTreaties validLayers valid fitted writeOf
+    treatyOutside ratesOutside termsOutside treatyNotZero termsNotZero ratesText layerNumbers kindOf formOfKind formOf
+    treatyLine treatyFault layerFault readFrom readOf validTreaties validLayers valid fitted writeOf
 corners = record {
   answer-read = refl;
   answer-empty = refl;
@@ -292,6 +323,21 @@ corners = record {
   number-0 = refl;
   number-9 = refl;
   sixteen-digits = refl;
+  rates-none = refl;
+  rates-one = refl;
+  rates-two = refl;
+  rates-ten = refl;
+  rate-missing = refl;
+  rate-more = refl;
+  rate-of-none = refl;
+  rate-blank = refl;
+  rates-of-21 = refl;
+  rates-of-many = refl;
+  rate-of-17-digits = refl;
+  rates-21 = refl;
+  rate-high = refl;
+  rate-of-16-digits = refl;
+  rate-and-premium = refl;
   treaty-late = refl;
   risk-late = refl;
   same-number = refl;
@@ -315,6 +361,8 @@ corners = record {
   exactly = refl;
   one-short = refl;
   no-lines = refl;
+  writes-none = refl;
+  writes-two = refl;
   limit-1 = refl;
   limit-0 = refl;
   unused-risk = refl;

@@ -1,4 +1,6 @@
+pub mod Fits
 pub mod LineKinds
+pub mod LayerLines
 pub mod Lines
 pub mod TextRead
 pub mod TableBack

@@ -1,7 +1,7 @@
 -- The kind of a line by its first two bytes, and what a line of each kind is.
 -- Assumes nothing.
 use mathlib.Core.Path.{_≡_, refl, _∙_}
-use mathlib.Core.Bool.{true}
+use mathlib.Core.Bool.{true, false}
 use mathlib.Core.List.{List, [], _∷_}
 use Prim.Native.Nat.{ℕ, _<_}
 use native.Mathlib.Omega.{arith}
@@ -11,12 +11,13 @@ use Rattle.lists.proofs.Cases.{by-eq}
 use Rattle.text.specs.Template.{numbersBy}
 use Rattle.text.specs.declared.template.Numbers.{Numbers}
 use Rattle.treaty.specs.declared.Treaty.{Treaty}
-use Rattle.layer.specs.declared.terms.Terms.{Terms}
-use Rattle.programme.specs.declared.contract.Contract.the-variants.{Proportional, Risk, Cat}
-use Rattle.table_text.specs.declared.Form.{Form}
-use Rattle.table_text.specs.declared.Form.the-variants.{Line, NoForm}
-use Rattle.table_text.specs.Forms.{quotaText, surplusText, riskText, catText, termsFrom, formIf}
-use Rattle.table_text.specs.Forms.{quotaForm, surplusForm, riskForm, catForm, kindOf, formOfKind, formOf}
+use Rattle.programme.specs.declared.contract.Kind.the-variants as kind
+use Rattle.programme.specs.Contracts.{Contract, Proportional, Risk, Cat}
+use Rattle.table_text.specs.declared.LineRead.{LineRead}
+use Rattle.table_text.specs.declared.Form.the-variants as form
+use Rattle.table_text.specs.Forms.{Form, Line, NoForm, formRead, quotaText, surplusText, riskText, catText}
+use Rattle.table_text.specs.Forms.{layerNumbers, formIf, quotaForm, surplusForm, layerForm}
+use Rattle.table_text.specs.Forms.{kindOf, formOfKind, formOf}
 
 -- a line of less than two bytes has no kind
 pub too-short : (s : List ℕ) → length s < 2 → 0 ≡ kindOf s
@@ -76,16 +77,15 @@ pub kind-other : (s : List ℕ) (k : ℕ) → (k ≡ 1 → ⊥) → (k ≡ 2 →
 unfolding formOfKind
 kind-other s k q t r c = simp (formOfKind, ne-eqb _ _ q, ne-eqb _ _ t, ne-eqb _ _ r, ne-eqb _ _ c)
 
--- a line whose numbers were found is the contract that they make
-module _ (n : Numbers) (h : n .found ≡ true) where
-  pub found-treaty : (t : Treaty) → Line (Proportional t) ≡ formIf (n .found) (Proportional t)
-  found-treaty t = rw h
+-- what a line read is, by what was read of it
+module _ (r : LineRead) where
+  pub found-treaty : (n : Numbers) → n .found ≡ true → (t : Treaty) → r .form ≡ form.Line (kind.Proportional t)
+      → formRead r ≡ formIf (n .found) (Proportional t)
+  found-treaty n h t e = rw (e, h)
 
-  pub found-risk : (l : Terms) → l ≡ termsFrom (n .values) → Line (Risk l) ≡ riskForm n
-  found-risk l e = rw (h, e)
-
-  pub found-cat : (l : Terms) → l ≡ termsFrom (n .values) → Line (Cat l) ≡ catForm n
-  found-cat l e = rw (h, e)
+  pub found-none : (n : Numbers) → n .found ≡ false → (c : Contract) → r .form ≡ form.NoForm
+      → formRead r ≡ formIf (n .found) c
+  found-none n h c e = rw (e, h)
 
 -- what a line of the kind k is, from what its template reads of it
 module _ (s : List ℕ) (k : ℕ) (q : k ≡ kindOf s) where
@@ -98,14 +98,15 @@ module _ (s : List ℕ) (k : ℕ) (q : k ≡ kindOf s) where
   unfolding formOf formOfKind
   form-surplus h n e f p = p ∙ rw (formOf, ← q, h, e)
 
-  pub form-risk : k ≡ 3 → (n : Numbers) → n ≡ numbersBy riskText s → (f : Form) → f ≡ riskForm n → f ≡ formOf s
+  pub form-risk : k ≡ 3 → (f : Form) → f ≡ layerForm Risk (layerNumbers riskText s) → f ≡ formOf s
   unfolding formOf formOfKind
-  form-risk h n e f p = p ∙ rw (formOf, ← q, h, e)
+  form-risk h f p = p ∙ rw (formOf, ← q, h)
 
-  pub form-cat : k ≡ 4 → (n : Numbers) → n ≡ numbersBy catText s → (f : Form) → f ≡ catForm n → f ≡ formOf s
+  pub form-cat : k ≡ 4 → (f : Form) → f ≡ layerForm Cat (layerNumbers catText s) → f ≡ formOf s
   unfolding formOf formOfKind
-  form-cat h n e f p = p ∙ rw (formOf, ← q, h, e)
+  form-cat h f p = p ∙ rw (formOf, ← q, h)
 
-  pub form-none : (k ≡ 1 → ⊥) → (k ≡ 2 → ⊥) → (k ≡ 3 → ⊥) → (k ≡ 4 → ⊥) → NoForm ≡ formOf s
+  pub form-none : (k ≡ 1 → ⊥) → (k ≡ 2 → ⊥) → (k ≡ 3 → ⊥) → (k ≡ 4 → ⊥) → (r : LineRead) → r .form ≡ form.NoForm
+      → formRead r ≡ formOf s
   unfolding formOf
-  form-none a b c d = rw (formOf, ← q) (kind-other s k a b c d)
+  form-none a b c d r e = rw (e, formOf, ← q) (kind-other s k a b c d)

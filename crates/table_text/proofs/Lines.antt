@@ -20,25 +20,21 @@ use Rattle.text.proofs.Feeds.{NoFeed, feedless, filled-no-feed}
 use Rattle.text.proofs.Ascii.{Byte, filled-bytes}
 use Rattle.treaty.specs.declared.Treaty.{Treaty}
 use Rattle.layer.specs.declared.terms.Terms.{Terms}
-use Rattle.layer.specs.Ranges.{InRange}
-use Rattle.programme.specs.declared.contract.Contract.{Contract}
-use Rattle.programme.specs.declared.contract.Contract.the-variants.{Proportional, Risk, Cat}
-use Rattle.programme.specs.Ranges.{treatyOutside, termsOutside}
+use Rattle.programme.specs.Contracts.{Contract, Proportional, Risk, Cat}
+use Rattle.programme.specs.Ranges.{termsOutside}
 use Rattle.programme.proofs.Bounds.{QuotaInRange, SurplusInRange, TreatyInRange}
-use Rattle.programme.proofs.Bounds.{treaty-in-range, terms-in-range}
-use Rattle.table_text.specs.declared.Form.the-variants.{Line, NoForm}
-use Rattle.table_text.specs.Forms.{quotaText, surplusText, riskText, catText}
+use Rattle.programme.proofs.Bounds.{treaty-in-range, terms-in-range, rates-back}
+use Rattle.table_text.specs.Forms.{Line, NoForm, quotaText, surplusText, riskText, catText, layerText}
 use Rattle.table_text.specs.Forms.{quotaFrom, surplusFrom, termsFrom, quotaNumbers, surplusNumbers, termsNumbers}
-use Rattle.table_text.specs.Forms.{formIf, kindOf, formOfKind, formOf, treatyLine, lineOf}
+use Rattle.table_text.specs.Forms.{formIf, layerNumbers, layerForm, kindOf, formOfKind, formOf}
+use Rattle.table_text.specs.Forms.{treatyLine, termsLine, lineOf}
+use Rattle.table_text.proofs.Fits.{Fit}
 use Rattle.table_text.proofs.LineKinds.{kind-other}
+use Rattle.table_text.proofs.LayerLines.{Beginning, risk-begins, cat-begins, rest-feedless, rest-bytes}
+use Rattle.table_text.proofs.LayerLines.{terms-listed, terms-back, layer-read, layer-printed, layer-short}
 
--- every number of a contract is within its range
-abbrev pub Fit : Contract → Type 0
-Fit (Proportional t) = treatyOutside t ≡ 0
-Fit (Risk l) = termsOutside l ≡ 0
-Fit (Cat l) = termsOutside l ≡ 0
-
--- One of the four forms: the template t of n numbers, the kind k of its lines, and the contract that numbers make.
+-- One of a treaty's two forms: the template t of n numbers, the kind k of its lines, and the contract that numbers
+-- make.
 record Shape (t : List ℕ) (n k : ℕ) (make : List ℕ → Contract) : Type 0 where
   separate : separated t ≡ true
   count : holes t ≡ n
@@ -47,7 +43,7 @@ record Shape (t : List ℕ) (n k : ℕ) (make : List ℕ → Contract) : Type 0 
   reads : (s : List ℕ) → formOfKind k s ≡ formIf (numbersBy t s .found) (make (numbersBy t s .values))
   prints : (ns : List ℕ) → length ns ≡ n → lineOf (make (eight ns)) ≡ filled t ns []
 
--- lists of four and of seven numbers, by their places
+-- a list of four numbers, by their places
 four : (ns : List ℕ) → length ns ≡ 4
     → ns ≡ getD (eight ns) 0 0 ∷ getD (eight ns) 1 0 ∷ getD (eight ns) 2 0 ∷ getD (eight ns) 3 0 ∷ []
 four [] l = absurd (omega arith)
@@ -56,17 +52,6 @@ four (a ∷ b ∷ []) l = absurd (omega arith)
 four (a ∷ b ∷ c ∷ []) l = absurd (omega arith)
 four (a ∷ b ∷ c ∷ d ∷ []) l = refl
 four (a ∷ b ∷ c ∷ d ∷ e ∷ ns) l = absurd (omega arith)
-
-seven : (ns : List ℕ) → length ns ≡ 7 → ns ≡ termsNumbers (termsFrom (eight ns))
-seven [] l = absurd (omega arith)
-seven (a ∷ []) l = absurd (omega arith)
-seven (a ∷ b ∷ []) l = absurd (omega arith)
-seven (a ∷ b ∷ c ∷ []) l = absurd (omega arith)
-seven (a ∷ b ∷ c ∷ d ∷ []) l = absurd (omega arith)
-seven (a ∷ b ∷ c ∷ d ∷ e ∷ []) l = absurd (omega arith)
-seven (a ∷ b ∷ c ∷ d ∷ e ∷ f ∷ []) l = absurd (omega arith)
-seven (a ∷ b ∷ c ∷ d ∷ e ∷ f ∷ g ∷ []) l = refl
-seven (a ∷ b ∷ c ∷ d ∷ e ∷ f ∷ g ∷ h ∷ ns) l = absurd (omega arith)
 
 -- the same numbers print the same text
 same-text : (t ns ms : List ℕ) → ns ≡ ms → filled t ms [] ≡ filled t ns []
@@ -81,7 +66,7 @@ surplus-prints : (ns : List ℕ) → length ns ≡ 4 → treatyLine (surplusFrom
 unfolding treatyLine
 surplus-prints ns l = same-text surplusText ns _ (four ns l)
 
--- the four forms
+-- the two forms
 quota-shape : Shape quotaText 4 1 (λ v. Proportional (quotaFrom v))
 unfolding separated parted digitOf capital holes filled kindOf formOfKind
 quota-shape = record {
@@ -104,29 +89,7 @@ surplus-shape = record {
   prints = surplus-prints;
 }
 
-risk-shape : Shape riskText 7 3 (λ v. Risk (termsFrom v))
-unfolding separated parted digitOf capital holes filled kindOf formOfKind
-risk-shape = record {
-  separate = refl;
-  count = refl;
-  short = lit≤ tt;
-  kind = λ ns. refl;
-  reads = λ s. refl;
-  prints = λ ns l. same-text riskText ns _ (seven ns l);
-}
-
-cat-shape : Shape catText 7 4 (λ v. Cat (termsFrom v))
-unfolding separated parted digitOf capital holes filled kindOf formOfKind
-cat-shape = record {
-  separate = refl;
-  count = refl;
-  short = lit≤ tt;
-  kind = λ ns. refl;
-  reads = λ s. refl;
-  prints = λ ns l. same-text catText ns _ (seven ns l);
-}
-
--- what holds of the lines of every form
+-- what holds of the lines of both
 module _ (t : List ℕ) (n k : ℕ) (make : List ℕ → Contract) (f : Shape t n k make) where
   module _ (ns : List ℕ) (l : length ns ≡ n) (z : Each Readable ns) where
     shape-printed : formOf (lineOf (make (eight ns))) ≡ Line (make (eight ns))
@@ -135,7 +98,7 @@ module _ (t : List ℕ) (n k : ℕ) (make : List ℕ → Contract) (f : Shape t 
         let read = line-printed t ns (f .separate) (l ∙ sym (f .count)) z in
         rw (f .prints ns l, f .kind ns, f .reads (filled t ns []), read)
 
-    shape-short : length (lineOf (make (eight ns))) ≤ 160
+    shape-short : length (lineOf (make (eight ns))) ≤ 240
     shape-short = rw (f .prints ns l) (omega (arith, filled-length t ns z, f .count, f .short))
 
   shape-read : (s : List ℕ) (x : Contract) → formOfKind k s ≡ Line x → s ≡ lineOf x
@@ -150,31 +113,84 @@ module _ (t : List ℕ) (n k : ℕ) (make : List ℕ → Contract) (f : Shape t 
           let made : make (eight ns) ≡ x = cc in
           r .0 ∙ sym (f .prints ns (r .1 ∙ f .count)) ∙ ap lineOf made
 
--- a layer's numbers have at most sixteen digits
-terms-readable : (l : Terms) → InRange l → Each Readable (termsNumbers l)
-terms-readable l r = (
-  omega (arith, r .attachment),
-  (
-    omega (arith, r .limit-high),
-    (
-      omega (arith, r .deductible),
-      (
-        omega (arith, r .reinstatements),
-        (omega (arith, r .rate), (omega (arith, r .premium), (omega (arith, r .placed), tt))),
-      ),
-    ),
-  ),
-)
+-- A tier: the beginning of its lines, their kind k, and the contract that terms make.
+record Tier (begin : List ℕ) (k : ℕ) (make : Terms → Contract) : Type 0 where
+  begins : Beginning begin
+  kind : (n : ℕ) (ns : List ℕ) → kindOf (filled (layerText begin n) ns []) ≡ k
+  reads : (s : List ℕ) → formOfKind k s ≡ layerForm make (layerNumbers begin s)
+  prints : (l : Terms) → lineOf (make l) ≡ termsLine begin l
+  fits : (l : Terms) → Fit (make l) → termsOutside l ≡ 0
 
--- what holds of every form with numbers of at most sixteen digits in it ..
+risk-tier : Tier riskText 3 Risk
+unfolding capital filled kindOf formOfKind
+risk-tier = record {
+  begins = risk-begins;
+  kind = λ n ns. refl;
+  reads = λ s. refl;
+  prints = λ l. refl;
+  fits = λ l z. z;
+}
+
+cat-tier : Tier catText 4 Cat
+unfolding capital filled kindOf formOfKind
+cat-tier = record {
+  begins = cat-begins;
+  kind = λ n ns. refl;
+  reads = λ s. refl;
+  prints = λ l. refl;
+  fits = λ l z. z;
+}
+
+-- what holds of the lines of both tiers
+module _ (begin : List ℕ) (k : ℕ) (make : Terms → Contract) (f : Tier begin k make) where
+  module _ (l : Terms) (z : termsOutside l ≡ 0) where
+    tier-printed : formOf (lineOf (make l)) ≡ Line (make l)
+    unfolding formOf
+    tier-printed =
+        let r = terms-in-range l z in
+        let n = l .reinstatements in
+        rw (
+          f .prints l,
+          f .kind n (termsNumbers l),
+          f .reads (termsLine begin l),
+          layer-printed begin (f .begins) l r,
+          terms-back l r (rates-back l z),
+        )
+
+    tier-short : length (lineOf (make l)) ≤ 240
+    tier-short = rw (f .prints l) (layer-short begin (f .begins) l (terms-in-range l z))
+
+  tier-read : (s : List ℕ) (x : Contract) → formOfKind k s ≡ Line x → Fit x → s ≡ lineOf x
+  tier-read s x e z = by-numbers (layerNumbers begin s) refl (sym (f .reads s) ∙ e)
+    where
+      by-numbers : (o : Option (List ℕ)) → layerNumbers begin s ≡ o → layerForm make (layerNumbers begin s) ≡ Line x
+          → s ≡ lineOf x
+      by-numbers none q h = let z : _≡_ {A = ℕ} 0 1 = cc (rw q at h) in absurd (omega arith)
+      by-numbers (some v) q h =
+          let same : Line (make (termsFrom v)) ≡ Line x = rw q at h in
+          let made : make (termsFrom v) ≡ x = cc in
+          let fit = f .fits (termsFrom v) (rw (← made) at z) in
+          let r = layer-read begin (f .begins) s v q in
+          let listed = terms-listed v (r .1) (terms-in-range (termsFrom v) fit .reinstatements) in
+          r .0
+          ∙ ap (λ (ns : List ℕ). filled (layerText begin (getD v 3 0)) ns []) (sym listed)
+          ∙ sym (f .prints (termsFrom v))
+          ∙ ap lineOf made
+
+-- what holds of both forms of a treaty, with numbers of at most sixteen digits in them, and of both tiers ..
 abbrev OfShapes : (Contract → Type 0) → Type 0
 OfShapes P =
     (t : List ℕ) (n k : ℕ) (make : List ℕ → Contract) → Shape t n k make
     → (ns : List ℕ) → length ns ≡ n → Each Readable ns → P (make (eight ns))
 
+abbrev OfTiers : (Contract → Type 0) → Type 0
+OfTiers P =
+    (begin : List ℕ) (k : ℕ) (make : Terms → Contract) → Tier begin k make
+    → (l : Terms) → termsOutside l ≡ 0 → P (make l)
+
 -- .. holds of every contract whose numbers are within their ranges
-of-contracts : (P : Contract → Type 0) → OfShapes P → (x : Contract) → Fit x → P x
-of-contracts P f (Proportional t) z = by-kind (r .kind)
+of-contracts : (P : Contract → Type 0) → OfShapes P → OfTiers P → (x : Contract) → Fit x → P x
+of-contracts P f g (Proportional t) z = by-kind (r .kind)
   where
     r : TreatyInRange t
     r = treaty-in-range t z
@@ -210,17 +226,18 @@ of-contracts P f (Proportional t) z = by-kind (r .kind)
           omega (arith, r .number-high),
           (omega (arith, r .terms .retention), (omega (arith, r .terms .lines), (omega (arith, r .terms .limit), tt))),
         ))
-of-contracts P f (Risk l) z = f _ _ _ _ risk-shape (termsNumbers l) refl (terms-readable l (terms-in-range l z))
-of-contracts P f (Cat l) z = f _ _ _ _ cat-shape (termsNumbers l) refl (terms-readable l (terms-in-range l z))
+of-contracts P f g (Risk l) z = g _ _ _ risk-tier l z
+of-contracts P f g (Cat l) z = g _ _ _ cat-tier l z
 
 -- the line of a contract within its ranges is read as the contract
 pub form-printed : (x : Contract) → Fit x → formOf (lineOf x) ≡ Line x
-form-printed = of-contracts (λ x. formOf (lineOf x) ≡ Line x) shape-printed
+form-printed = of-contracts (λ x. formOf (lineOf x) ≡ Line x) shape-printed tier-printed
 
--- a line that is read as a contract is the contract's line
-pub form-read : (s : List ℕ) (x : Contract) → formOf s ≡ Line x → s ≡ lineOf x
+-- A line that is read as a contract is the contract's line. Of more than twenty rates its terms keep twenty, and it is
+-- not within its ranges.
+pub form-read : (s : List ℕ) (x : Contract) → formOf s ≡ Line x → Fit x → s ≡ lineOf x
 unfolding formOf
-form-read s x e = by-kind (kindOf s) e
+form-read s x e z = by-kind (kindOf s) e
   where
     by-kind : (k : ℕ) → formOfKind k s ≡ Line x → s ≡ lineOf x
     by-kind k e =
@@ -229,24 +246,25 @@ form-read s x e = by-kind (kindOf s) e
         (λ q. by-eq k 2
         (λ h. shape-read _ _ _ _ surplus-shape s x (rw h at e))
         (λ t. by-eq k 3
-        (λ h. shape-read _ _ _ _ risk-shape s x (rw h at e))
+        (λ h. tier-read _ _ _ risk-tier s x (rw h at e) z)
         (λ r. by-eq k 4
-        (λ h. shape-read _ _ _ _ cat-shape s x (rw h at e))
+        (λ h. tier-read _ _ _ cat-tier s x (rw h at e) z)
         (λ c. let no : NoForm ≡ Line x = kind-other s k q t r c ∙ e in
         let z : _≡_ {A = ℕ} 0 1 = cc in absurd (omega arith)))))
 
--- what holds of all that the four templates print holds of every contract's line
-of-templates : (P : List ℕ → Type 0) → ((ns : List ℕ) → P (filled quotaText ns []))
-    → ((ns : List ℕ) → P (filled surplusText ns [])) → ((ns : List ℕ) → P (filled riskText ns []))
-    → ((ns : List ℕ) → P (filled catText ns [])) → (x : Contract) → P (lineOf x)
+-- what holds of all that the templates print, with any number of rates, holds of every contract's line
+of-templates : (P : List ℕ → Type 0)
+    → ((ns : List ℕ) → P (filled quotaText ns [])) → ((ns : List ℕ) → P (filled surplusText ns []))
+    → ((k : ℕ) (ns : List ℕ) → P (filled (layerText riskText k) ns []))
+    → ((k : ℕ) (ns : List ℕ) → P (filled (layerText catText k) ns [])) → (x : Contract) → P (lineOf x)
 unfolding treatyLine
 of-templates P quota surplus risk cat (Proportional t) = by-kind (eqb (t .kind) 2) refl
   where
     by-kind : (b : Bool) → eqb (t .kind) 2 ≡ b → P (treatyLine t)
     by-kind true e = simp (treatyLine, e) (surplus (surplusNumbers t))
     by-kind false e = simp (treatyLine, e) (quota (quotaNumbers t))
-of-templates P quota surplus risk cat (Risk l) = risk (termsNumbers l)
-of-templates P quota surplus risk cat (Cat l) = cat (termsNumbers l)
+of-templates P quota surplus risk cat (Risk l) = risk (l .reinstatements) (termsNumbers l)
+of-templates P quota surplus risk cat (Cat l) = cat (l .reinstatements) (termsNumbers l)
 
 -- no line feed is in a contract's line
 pub line-no-feed : (x : Contract) → NoFeed (lineOf x)
@@ -255,8 +273,8 @@ line-no-feed =
     of-templates NoFeed
     (λ ns. filled-no-feed quotaText ns refl)
     (λ ns. filled-no-feed surplusText ns refl)
-    (λ ns. filled-no-feed riskText ns refl)
-    (λ ns. filled-no-feed catText ns refl)
+    (λ k ns. filled-no-feed (layerText riskText k) ns (rest-feedless k))
+    (λ k ns. filled-no-feed (layerText catText k) ns (rest-feedless k))
 
 -- a contract's line is of bytes
 pub line-bytes : (x : Contract) → Each Byte (lineOf x)
@@ -264,9 +282,9 @@ line-bytes =
     of-templates (Each Byte)
     (λ ns. filled-bytes quotaText ns refl)
     (λ ns. filled-bytes surplusText ns refl)
-    (λ ns. filled-bytes riskText ns refl)
-    (λ ns. filled-bytes catText ns refl)
+    (λ k ns. filled-bytes (layerText riskText k) ns (rest-bytes k))
+    (λ k ns. filled-bytes (layerText catText k) ns (rest-bytes k))
 
--- the line of a contract within its ranges has at most 160 bytes
-pub line-short : (x : Contract) → Fit x → length (lineOf x) ≤ 160
-line-short = of-contracts (λ x. length (lineOf x) ≤ 160) shape-short
+-- the line of a contract within its ranges has at most 240 bytes
+pub line-short : (x : Contract) → Fit x → length (lineOf x) ≤ 240
+line-short = of-contracts (λ x. length (lineOf x) ≤ 240) shape-short tier-short

@@ -11,24 +11,22 @@ use lib.ListN.{length, length-append, length-map}
 use Rattle.lists.specs.Each.{Each}
 use Rattle.lists.specs.Chains.{lastBy, chained}
 use Rattle.lists.proofs.Chains.{both, last-snoc}
-use Rattle.lists.proofs.Each.{each-append, each-of, each-map, each-chained}
+use Rattle.lists.proofs.Each.{each-of, each-map}
 use Rattle.text.specs.Lines.{joined}
 use Rattle.text.proofs.Feeds.{NoFeed, lines-joined}
 use Rattle.treaty.specs.declared.Treaty.{Treaty}
 use Rattle.layer.specs.declared.terms.Terms.{Terms}
-use Rattle.programme.specs.declared.contract.Contract.{Contract}
-use Rattle.programme.specs.declared.contract.Contract.the-variants.{Proportional, Risk, Cat}
+use Rattle.programme.specs.Contracts.{Contract, Proportional, Risk, Cat}
 use Rattle.programme.specs.Contracts.{Contracts, noContracts, withContract, inOrder, programmeOf}
 use Rattle.programme.specs.Rules.{treatyNumber, bandEnd, lastOf, treatyFault, layerFault, faultOf}
 use Rattle.programme.specs.Valid.{treatyPasses, layerPasses}
 use Rattle.programme.proofs.Faults.{treaty-fine, layer-fine}
 use Rattle.programme.proofs.Lawful.{Lawful, treaty-passed, layer-passed, at-most-eight}
 use Rattle.table_text.specs.declared.Reading.{Reading}
-use Rattle.table_text.specs.declared.Form.{Form}
-use Rattle.table_text.specs.declared.Form.the-variants.{Line}
-use Rattle.table_text.specs.Forms.{lineForm, formsOf, lineOf, tableOf}
+use Rattle.table_text.specs.Forms.{Form, Line, lineForm, formsOf, lineOf, tableOf}
 use Rattle.table_text.specs.Read.{readAs, readFrom, readOf}
-use Rattle.table_text.proofs.Lines.{Fit, form-printed, line-no-feed, line-short}
+use Rattle.table_text.proofs.Fits.{Fit, each-fit}
+use Rattle.table_text.proofs.Lines.{form-printed, line-no-feed, line-short}
 
 -- The lines of one kind, read one after another: `state` gives all contracts from those of this kind, `form` the
 -- contract of one. One that passes after the last has no fault, and joins the others.
@@ -90,24 +88,12 @@ kinds-back c g =
     layer-passing (λ ls l. refl) _ _ (c .cat) (g .few-cat) (g .cat) (λ w. refl)))
     1
 
--- every contract of lawful ones is within its ranges
-each-fit : (c : Contracts) → Lawful c → Each Fit (inOrder c)
-each-fit c g =
-    each-append Fit (map Proportional (c .treaties)) _
-    (each-map Fit Proportional (c .treaties)
-    (each-chained _ treatyPasses treatyNumber (λ n t e. treaty-passed n t e .0) 0 (c .treaties) (g .treaties)))
-    (each-append Fit (map Risk (c .risk)) _
-    (each-map Fit Risk (c .risk)
-    (each-chained _ layerPasses bandEnd (λ n l e. layer-passed n l e .0) 0 (c .risk) (g .risk)))
-    (each-map Fit Cat (c .cat)
-    (each-chained _ layerPasses bandEnd (λ n l e. layer-passed n l e .0) 0 (c .cat) (g .cat))))
-
 -- the lines of contracts within their ranges: their forms, and the length of the text
 forms-printed : (xs : List Contract) → Each Fit xs → map lineForm (map some (map lineOf xs)) ≡ map Line xs
 forms-printed [] z = refl
 forms-printed (x ∷ xs) z = rw (form-printed x (z .0), forms-printed xs (z .1))
 
-joined-short : (xs : List Contract) → Each Fit xs → length (joined (map lineOf xs)) ≤ 161 * length xs
+joined-short : (xs : List Contract) → Each Fit xs → length (joined (map lineOf xs)) ≤ 241 * length xs
 joined-short [] z = omega arith
 joined-short (x ∷ xs) z =
     omega (arith, length-append (lineOf x) (10 ∷ joined (map lineOf xs)), line-short x (z .0), joined-short xs (z .1))

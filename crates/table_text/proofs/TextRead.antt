@@ -8,6 +8,7 @@ use Prim.Native.Nat.{ℕ, zero, suc, _+_, _≤_, zero-le}
 use native.Mathlib.Omega.{arith}
 use borrow.Author.Tests.{lt-ltb, le-ltb}
 use lib.ListN.{length, length-append}
+use Rattle.lists.specs.Each.{Each}
 use Rattle.lists.specs.Chains.{lastBy, chained}
 use Rattle.lists.proofs.Chains.{chained-snoc}
 use Rattle.lists.proofs.Cases.{by-lt}
@@ -15,8 +16,7 @@ use Rattle.text.specs.Lines.{linesOf}
 use Rattle.text.proofs.Feeds.{joined-lines}
 use Rattle.layer.specs.declared.terms.Terms.{Terms}
 use Rattle.programme.specs.declared.contract.Programme.{Programme}
-use Rattle.programme.specs.declared.contract.Contract.{Contract}
-use Rattle.programme.specs.declared.contract.Contract.the-variants.{Proportional, Risk, Cat}
+use Rattle.programme.specs.Contracts.{Contract, Proportional, Risk, Cat}
 use Rattle.programme.specs.Contracts.{Contracts, noContracts, withContract, inOrder, programmeOf}
 use Rattle.programme.specs.Rules.{treatyNumber, bandEnd, lastOf, faultOf}
 use Rattle.programme.specs.Valid.{treatyPasses, layerPasses}
@@ -24,10 +24,9 @@ use Rattle.programme.proofs.Faults.{LayerFaultless, treaty-faultless, layer-fau
 use Rattle.programme.proofs.Tests.{treaty-passes, layer-passes}
 use Rattle.programme.proofs.Lawful.{Lawful}
 use Rattle.table_text.specs.declared.Reading.{Reading}
-use Rattle.table_text.specs.declared.Form.{Form}
-use Rattle.table_text.specs.declared.Form.the-variants.{Line, NoForm}
-use Rattle.table_text.specs.Forms.{formOf, lineForm, formsOf, lineOf, tableOf}
+use Rattle.table_text.specs.Forms.{Form, Line, NoForm, formOf, lineForm, formsOf, lineOf, tableOf}
 use Rattle.table_text.specs.Read.{refusedAt, readAs, unlessFault, readFrom, readOf}
+use Rattle.table_text.proofs.Fits.{Fit, each-fit}
 use Rattle.table_text.proofs.Lines.{form-read}
 
 none-left : {A : Type 0} (xs : List A) → length xs ≡ 0 → xs ≡ []
@@ -130,17 +129,17 @@ read-on (Line x ∷ fs) w c p g e = by-fault (faultOf c x) refl e (read-on fs (w
         }
     by-fault (suc n) z h again = absurd (no-success n w p h)
 
--- lines whose forms are contracts are the contracts' lines
-lines-read : (ls : List (Option (List ℕ))) (xs : List Contract) → map lineForm ls ≡ map Line xs
+-- lines whose forms are contracts within their ranges are the contracts' lines
+lines-read : (ls : List (Option (List ℕ))) (xs : List Contract) → map lineForm ls ≡ map Line xs → Each Fit xs
     → ls ≡ map some (map lineOf xs)
-lines-read [] [] e = refl
-lines-read [] (x ∷ xs) e = let n : _≡_ {A = ℕ} 0 1 = cc in absurd (omega arith)
-lines-read (l ∷ ls) [] e = let n : _≡_ {A = ℕ} 0 1 = cc in absurd (omega arith)
-lines-read (none ∷ ls) (x ∷ xs) e = let n : _≡_ {A = ℕ} 0 1 = cc in absurd (omega arith)
-lines-read (some l ∷ ls) (x ∷ xs) e =
+lines-read [] [] e z = refl
+lines-read [] (x ∷ xs) e z = let n : _≡_ {A = ℕ} 0 1 = cc in absurd (omega arith)
+lines-read (l ∷ ls) [] e z = let n : _≡_ {A = ℕ} 0 1 = cc in absurd (omega arith)
+lines-read (none ∷ ls) (x ∷ xs) e z = let n : _≡_ {A = ℕ} 0 1 = cc in absurd (omega arith)
+lines-read (some l ∷ ls) (x ∷ xs) e z =
     let first : formOf l ≡ Line x = cc in
     let rest : map lineForm ls ≡ map Line xs = cc in
-    rw (form-read l x first, lines-read ls xs rest)
+    rw (form-read l x first (z .0), lines-read ls xs rest (z .1))
 
 -- what a text is from which the programme p is read
 pub record Table (s : List ℕ) (p : Programme) : Type 0 where
@@ -153,12 +152,15 @@ none-lawful : Lawful noContracts
 none-lawful = record { treaties = refl; risk = refl; cat = refl; few-risk = zero-le; few-cat = zero-le }
 
 table-of : (s : List ℕ) (p : Programme) → ReadOn noContracts (formsOf s) p → Table s p
-table-of s p r = record {
-  contracts = r .contracts;
-  lawful = r .lawful;
-  programme = r .programme;
-  text = rw (r .order) (joined-lines s (map lineOf (r .lines)) (lines-read (linesOf s) (r .lines) (r .forms)));
-}
+table-of s p r =
+    let fit : Each Fit (r .lines) = rw (r .order) at (each-fit (r .contracts) (r .lawful)) in
+    let lines = lines-read (linesOf s) (r .lines) (r .forms) fit in
+    record {
+      contracts = r .contracts;
+      lawful = r .lawful;
+      programme = r .programme;
+      text = rw (r .order) (joined-lines s (map lineOf (r .lines)) lines);
+    }
 
 pub table-read : (s : List ℕ) (p : Programme) → readOf s ≡ readAs p → Table s p
 unfolding readOf

@@ -1,24 +1,31 @@
--- Document 01, The table text: the four forms of a table's lines, read and printed.
+-- Document 01, The table text, with document 02's Q-2: the four forms of a table's lines, read and printed.
 -- Assumes nothing.
 use mathlib.Core.Bool.{Bool, true, false, cond}
-use mathlib.Core.List.{List, [], _∷_, map}
+use mathlib.Core.List.{List, [], _∷_, _++_, map}
 use mathlib.Core.Option.{Option, none, some}
-use Prim.Native.Nat.{ℕ}
+use Prim.Native.Nat.{ℕ, zero, suc, _+_}
 use lib.Dec.{eqb}
-use lib.ListN.{getD}
+use lib.ListN.{take, drop, getD}
 use Rattle.text.specs.Bytes.{bytes}
-use Rattle.text.specs.Template.{filled, numbersBy}
+use Rattle.text.specs.Template.{filled, matched, lineNumbers, numbersBy}
 use Rattle.text.specs.Lines.{linesOf, joined}
 use Rattle.text.specs.declared.template.Numbers.{Numbers}
 use Rattle.treaty.specs.declared.Treaty.{Treaty}
 use Rattle.treaty.specs.Treaty.{quotaOf, surplusOf}
 use Rattle.layer.specs.declared.terms.Terms.{Terms}
 use Rattle.layer.specs.Layer.{termsOf}
-use Rattle.programme.specs.declared.contract.Contract.{Contract}
-use Rattle.programme.specs.declared.contract.Contract.the-variants.{Proportional, Risk, Cat}
-use Rattle.programme.specs.Contracts.{Contracts, inOrder}
-use Rattle.table_text.specs.declared.Form.{Form}
-use Rattle.table_text.specs.declared.Form.the-variants.{Line, NoForm}
+use Rattle.programme.specs.Contracts.{Contract, Proportional, Risk, Cat, contractOf, Contracts, inOrder}
+use Rattle.table_text.specs.declared.LineRead.{LineRead}
+use Rattle.table_text.specs.declared.Form.the-variants as form
+
+-- what a line is
+pub data Form : Type 0 where
+  Line : Contract → Form
+  NoForm : Form
+
+-- what a line that was read is
+abbrev pub formRead : LineRead → Form
+formRead r = elim (r .form) [ form.Line k ↦ Line (contractOf k (r .terms)) | form.NoForm ↦ NoForm ]
 
 -- the templates, as document 01 prints the forms
 abbrev pub quotaText : List ℕ
@@ -27,11 +34,28 @@ quotaText = bytes "(quota T (cede C) (capacity A) (event L))"
 abbrev pub surplusText : List ℕ
 surplusText = bytes "(surplus T (retain R) (lines N) (event L))"
 
+-- A layer's form has as many rates as its K says: "the form becomes `(back K P Q1 .. QK)`", "a line whose rates are
+-- not K in number is 2". Its beginning by the tier, one rate, and its end
 abbrev pub riskText : List ℕ
-riskText = bytes "(risk (band A L) (deduct D) (back K Q P) (placed S))"
+riskText = bytes "(risk (band A L) (deduct D) (back K P"
 
 abbrev pub catText : List ℕ
-catText = bytes "(cat (band A L) (deduct D) (back K Q P) (placed S))"
+catText = bytes "(cat (band A L) (deduct D) (back K P"
+
+abbrev pub rateText : List ℕ
+rateText = bytes " Q"
+
+abbrev pub endText : List ℕ
+endText = bytes ") (placed S))"
+
+-- so many rates
+unfoldable pub ratesText : ℕ → List ℕ
+ratesText zero = []
+ratesText (suc k) = rateText ++ ratesText k
+
+-- the form with k rates
+abbrev pub layerText : List ℕ → ℕ → List ℕ
+layerText begin k = begin ++ (ratesText k ++ endText)
 
 -- the contract that a form's numbers make, in the form's order
 abbrev pub quotaFrom : List ℕ → Treaty
@@ -42,7 +66,13 @@ surplusFrom v = surplusOf (getD v 0 0) (getD v 1 0) (getD v 2 0) (getD v 3 0)
 
 abbrev pub termsFrom : List ℕ → Terms
 termsFrom v =
-    termsOf (getD v 0 0) (getD v 1 0) (getD v 2 0) (getD v 3 0) (getD v 4 0) (getD v 5 0) (getD v 6 0)
+    termsOf (getD v 0 0) (getD v 1 0) (getD v 2 0) (getD v 3 0) (getD v 4 0) (take (getD v 3 0) (drop 5 v))
+    (getD v (5 + getD v 3 0) 0)
+
+-- a layer's numbers in a line that is its form with as many rates as the line's own K
+unfoldable pub layerNumbers : List ℕ → List ℕ → Option (List ℕ)
+layerNumbers begin s =
+    elim (matched [] begin s) [ none ↦ none | some p ↦ lineNumbers (layerText begin (getD (p .0) 3 0)) s ]
 
 -- what a line is where a template finds its numbers in it, and no form where it does not
 abbrev pub formIf : Bool → Contract → Form
@@ -55,11 +85,9 @@ quotaForm n = formIf (n .found) (Proportional (quotaFrom (n .values)))
 abbrev pub surplusForm : Numbers → Form
 surplusForm n = formIf (n .found) (Proportional (surplusFrom (n .values)))
 
-abbrev pub riskForm : Numbers → Form
-riskForm n = formIf (n .found) (Risk (termsFrom (n .values)))
-
-abbrev pub catForm : Numbers → Form
-catForm n = formIf (n .found) (Cat (termsFrom (n .values)))
+abbrev pub layerForm : (Terms → Contract) → Option (List ℕ) → Form
+layerForm tier none = NoForm
+layerForm tier (some v) = Line (tier (termsFrom v))
 
 -- "A line's first word settles its kind": 1 quota, 2 surplus, 3 risk, 4 cat, the only form that a line with this
 -- letter after the bracket (40) can be; 0 where it can be none.
@@ -74,8 +102,8 @@ unfoldable pub formOfKind : ℕ → List ℕ → Form
 formOfKind k s =
     cond (eqb k 1) (quotaForm (numbersBy quotaText s))
     (cond (eqb k 2) (surplusForm (numbersBy surplusText s))
-    (cond (eqb k 3) (riskForm (numbersBy riskText s))
-    (cond (eqb k 4) (catForm (numbersBy catText s)) NoForm)))
+    (cond (eqb k 3) (layerForm Risk (layerNumbers riskText s))
+    (cond (eqb k 4) (layerForm Cat (layerNumbers catText s)) NoForm)))
 
 -- what a line is
 unfoldable pub formOf : List ℕ → Form
@@ -98,7 +126,8 @@ surplusNumbers t = t .number ∷ t .retention ∷ t .lines ∷ t .limit ∷ []
 
 abbrev pub termsNumbers : Terms → List ℕ
 termsNumbers l =
-    l .attachment ∷ l .limit ∷ l .deductible ∷ l .reinstatements ∷ l .rate ∷ l .premium ∷ l .placed ∷ []
+    l .attachment ∷ l .limit ∷ l .deductible ∷ l .reinstatements ∷ l .premium
+    ∷ (take (l .reinstatements) (l .rates) ++ (l .placed ∷ []))
 
 -- a treaty's line; kind 2 is surplus
 unfoldable pub treatyLine : Treaty → List ℕ
@@ -106,9 +135,9 @@ treatyLine t =
     elim (eqb (t .kind) 2)
     [ true ↦ filled surplusText (surplusNumbers t) [] | false ↦ filled quotaText (quotaNumbers t) [] ]
 
--- a layer's line by the template of its tier
+-- a layer's line, by the beginning of its tier: its form with K rates
 abbrev pub termsLine : List ℕ → Terms → List ℕ
-termsLine t l = filled t (termsNumbers l) []
+termsLine begin l = filled (layerText begin (l .reinstatements)) (termsNumbers l) []
 
 -- a contract's line
 abbrev pub lineOf : Contract → List ℕ

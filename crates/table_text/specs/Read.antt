@@ -9,9 +9,7 @@ use Rattle.programme.specs.declared.contract.Programme.{Programme}
 use Rattle.programme.specs.Contracts.{Contracts, noContracts, withContract, programmeOf}
 use Rattle.programme.specs.Rules.{faultOf}
 use Rattle.table_text.specs.declared.Reading.{Reading}
-use Rattle.table_text.specs.declared.Form.{Form}
-use Rattle.table_text.specs.declared.Form.the-variants.{Line, NoForm}
-use Rattle.table_text.specs.Forms.{formsOf}
+use Rattle.table_text.specs.Forms.{Form, Line, NoForm, formsOf}
 
 -- a refusal: its number, the line, and the programme without contracts
 abbrev pub refusedAt : (refusal line : ℕ) → Reading

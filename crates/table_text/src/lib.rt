@@ -1,11 +1,18 @@
 // The table text: a line's form and what reading answers. What reading and writing come to stands in the definitions.
-use programme::contract::Contract;
+use layer::terms::Terms;
+use programme::contract::Kind;
 use programme::contract::Programme;
 
-// What a line is.
+// What a line is, but for a layer's terms.
 pub enum Form {
-    Line(Contract),
+    Line(Kind),
     NoForm,
+}
+
+// A line read: what it is, with a layer's terms beside it.
+pub struct LineRead {
+    pub form: Form,
+    pub terms: Terms,
 }
 
 // What reading answers: refusal 0 and the programme, or a refusal, its line and the programme without contracts.

@@ -1,5 +1,6 @@
-// The checked figures of document 01, and those of document 02 on event limits and the nearest cent, computed by the
-// code: a line each, held to the stored output.
+// The checked figures of document 01, and those of document 02 on rates, event limits and the nearest cent, computed
+// by the code: a line each, held to the stored output.
+ghost use mathlib.Core.List.{[], _∷_};
 ghost use Prim.Native.Nat.{_+_, _^_, _≤_};
 ghost use lib.ListN.{take};
 ghost use Rattle.treaty.specs.Ranges.{TermsInRange, LossInRange};
@@ -147,9 +148,10 @@ fn surplus_figures() {
     );
 }
 
-// A layer with nothing spent, from the numbers of its line: (band A L) (deduct D) (back K Q P) (placed S).
-fn layer(a: u64, l: u64, d: u64, k: u64, q: u64, p: u64, s: u64) -> Layer
-    requires { ⌜ InRange (termsOf a l d k q p s) ⌝ }
+// A layer with nothing spent, from the numbers of its line: (band A L) (deduct D) (back K P Q1 Q2 Q3) (placed S). A
+// rate that is not used is 0.
+fn layer(a: u64, l: u64, d: u64, k: u64, p: u64, q1: u64, q2: u64, q3: u64, s: u64) -> Layer
+    requires { ⌜ InRange (termsOf a l d k p (q1 ∷ q2 ∷ q3 ∷ []) s) ⌝ }
     ensures { λ r. ⌜ Sound r ⌝ }
 {
     let terms = Terms {
@@ -157,12 +159,41 @@ fn layer(a: u64, l: u64, d: u64, k: u64, q: u64, p: u64, s: u64) -> Layer
         limit: l,
         deductible: d,
         reinstatements: k,
-        rate: q,
         premium: p,
         placed: s,
+        rates: [
+            q1,
+            q2,
+            q3,
+            0,
+            0,
+            0,
+            0,
+            0,
+            0,
+            0,
+            0,
+            0,
+            0,
+            0,
+            0,
+            0,
+            0,
+            0,
+            0,
+            0,
+        ],
     };
     let spent = Whole::new(0);
     Layer { terms, spent }
+}
+
+// One without reinstatements.
+fn plain(a: u64, l: u64, d: u64, s: u64) -> Layer
+    requires { ⌜ InRange (termsOf a l d 0 0 [] s) ⌝ }
+    ensures { λ r. ⌜ Sound r ⌝ }
+{
+    layer(a, l, d, 0, 0, 0, 0, 0, s)
 }
 
 fn brought(name: &[u8], layer: Layer, subject: u64) {
@@ -212,38 +243,73 @@ fn recoveries(name: &[u8], layer: Layer, subjects: &[u64])
 }
 
 fn layer_figures() {
-    brought(b"L1 at 50", layer(50, 100, 0, 0, 0, 0, 10000), 50);
-    brought(b"L1 at 51", layer(50, 100, 0, 0, 0, 0, 10000), 51);
-    recoveries(b"L2", layer(0, 100, 0, 0, 0, 0, 5000), &[1, 1]);
-    recoveries(
-        b"placed 3333",
-        layer(0, 100, 0, 0, 0, 0, 3333),
-        &[1, 1, 1, 1, 1],
-    );
+    brought(b"L1 at 50", plain(50, 100, 0, 10000), 50);
+    brought(b"L1 at 51", plain(50, 100, 0, 10000), 51);
+    recoveries(b"L2", plain(0, 100, 0, 5000), &[1, 1]);
+    recoveries(b"placed 3333", plain(0, 100, 0, 3333), &[1, 1, 1, 1, 1]);
     recoveries(
         b"L3 used 150",
-        layer(0, 100, 0, 1, 10000, 1000, 10000),
+        layer(0, 100, 0, 1, 1000, 10000, 0, 0, 10000),
         &[100, 50],
     );
     recoveries(
         b"L3 used 200",
-        layer(0, 100, 0, 1, 10000, 1000, 10000),
+        layer(0, 100, 0, 1, 1000, 10000, 0, 0, 10000),
         &[100, 50, 50],
     );
     recoveries(
         b"L4",
-        layer(500000, 500000, 1000000, 1, 0, 0, 10000),
+        layer(500000, 500000, 1000000, 1, 0, 0, 0, 0, 10000),
         &[750000, 2000000, 1000000, 250000, 1000000],
     );
+}
+
+// Two reinstatements, the first of them free.
+fn first_free() -> Layer
+    ensures { λ r. ⌜ Sound r ⌝ }
+{
+    layer(0, 100, 0, 2, 1000, 0, 10000, 0, 10000)
+}
+
+// The second of them.
+fn second_free() -> Layer
+    ensures { λ r. ⌜ Sound r ⌝ }
+{
+    layer(0, 100, 0, 2, 1000, 10000, 0, 0, 10000)
+}
+
+// Three reinstatements, each at another rate.
+fn three_rates() -> Layer
+    ensures { λ r. ⌜ Sound r ⌝ }
+{
+    layer(0, 100, 0, 3, 999, 1, 20000, 7, 3333)
+}
+
+// The premium at the ends of slices and inside them.
+fn rate_figures() {
+    recoveries(b"first free, used 100", first_free(), &[100]);
+    recoveries(b"first free, used 150", first_free(), &[100, 50]);
+    recoveries(b"first free, used 200", first_free(), &[100, 50, 50]);
+    recoveries(b"first free, used 300", first_free(), &[100, 100, 100]);
+    recoveries(b"second free, used 50", second_free(), &[50]);
+    recoveries(b"second free, used 100", second_free(), &[50, 50]);
+    recoveries(b"second free, used 300", second_free(), &[100, 100, 100]);
+    recoveries(b"three rates, used 99", three_rates(), &[99]);
+    recoveries(b"three rates, used 100", three_rates(), &[99, 1]);
+    recoveries(b"three rates, used 101", three_rates(), &[100, 1]);
+    recoveries(b"three rates, used 200", three_rates(), &[100, 1, 99]);
+    recoveries(b"three rates, used 299", three_rates(), &[100, 99, 100]);
+    recoveries(b"three rates, used 300", three_rates(), &[100, 100, 100]);
+    recoveries(b"three rates, used 301", three_rates(), &[100, 100, 100, 1]);
 }
 
 // The catastrophe tier of H1: its layers stand in the first three places.
 fn cat_layers() -> [Layer; tier::PLACES]
     ensures { λ r. ⌜ SoundLayers (take 3 r) ⌝ }
 {
-    let first = layer(25000000, 75000000, 75000000, 0, 0, 0, 10000);
-    let second = layer(100000000, 150000000, 0, 1, 5000, 75000000, 8000);
-    let third = layer(250000000, 150000000, 0, 1, 10000, 30000000, 7200);
+    let first = plain(25000000, 75000000, 75000000, 10000);
+    let second = layer(100000000, 150000000, 0, 1, 75000000, 5000, 0, 0, 8000);
+    let third = layer(250000000, 150000000, 0, 1, 30000000, 10000, 0, 0, 7200);
     let mut layers = [first; tier::PLACES];
     layers[1] = second;
     layers[2] = third;
@@ -268,5 +334,6 @@ fn main() {
     quota_figures();
     surplus_figures();
     layer_figures();
+    rate_figures();
     tier_figures();
 }

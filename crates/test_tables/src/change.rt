@@ -1,21 +1,23 @@
-// A programme read from a typed table, with one place or one count changed: t, r or c and a treaty's, a risk layer's
-// or a cat layer's place with its numbers, or T, R or C and a count. Most are such that no table text reads to them,
-// and writing refuses them with 6; beside them are the nearest that a text does read to, so that no test refuses too
-// much.
+// A programme read from a typed table, with one place, one rate or one count changed: t, r or c and a treaty's, a risk
+// layer's or a cat layer's place with its numbers; q or Q and a risk layer's or a cat layer's place, a rate's and that
+// rate; or T, R or C and a count. Most are such that no table text reads to them, and writing refuses them with 6;
+// beside them are the nearest that a text does read to, so that no test refuses too much.
 ghost use Prim.Native.Nat.{_<_};
 use crate::task::Task;
+use layer::terms::RATES;
 use layer::terms::Terms;
 use programme::contract::Programme;
 use treaty::Treaty;
 
-// Two treaties, two risk layers and one cat layer; the text is of 296 bytes.
+// Two treaties, two risk layers and one cat layer; the text is of 412 bytes.
 pub fn base() -> Programme {
     let reading = table::read(
         b"(quota 1 (cede 3333) (capacity 20000) (event 15000))\n\
         (surplus 4 (retain 10000) (lines 3) (event 0))\n\
-        (risk (band 50 60) (deduct 11) (back 2 300 4000) (placed 7200))\n\
-        (risk (band 110 9) (deduct 0) (back 0 0 0) (placed 9999))\n\
-        (cat (band 7 90) (deduct 12) (back 20 20000 1000000000000) (placed 3333))\n",
+        (risk (band 50 60) (deduct 11) (back 2 4000 300 301) (placed 7200))\n\
+        (risk (band 110 9) (deduct 0) (back 0 0) (placed 9999))\n\
+        (cat (band 7 90) (deduct 12) (back 20 1000000000000 20000 19999 19998 19997 19996 19995 19994 19993 19992 \
+        19991 19990 19989 19988 19987 19986 19985 19984 19983 19982 19981) (placed 3333))\n",
     );
     reading.programme
 }
@@ -33,17 +35,38 @@ fn treaty_of(v: [u64; 8]) -> Treaty {
     }
 }
 
-// [attachment limit deduct K Q premium placed], after the place
+// One rate in the first of their places, so many of them.
+fn rates_of(count: u64, rate: u64) -> [u64; RATES] {
+    let mut rates = [0u64; RATES];
+    let mut i: usize = 0;
+    while i < RATES {
+        rates[i] = if (i as u64) < count { rate } else { 0 };
+        i += 1;
+    }
+    rates
+}
+
+// [attachment limit deduct K premium placed rate], after the place; the rate is that of each reinstatement
 fn terms_of(v: [u64; 8]) -> Terms {
     Terms {
         attachment: v[1],
         limit: v[2],
         deductible: v[3],
         reinstatements: v[4],
-        rate: v[5],
-        premium: v[6],
-        placed: v[7],
+        premium: v[5],
+        placed: v[6],
+        rates: rates_of(v[4], v[7]),
     }
+}
+
+fn with_rate(terms: Terms, i: usize, rate: u64) -> Terms
+    requires { ⌜ i < 20 ⌝ }
+{
+    let mut changed = terms;
+    let mut rates = terms.rates;
+    rates[i] = rate;
+    changed.rates = rates;
+    changed
 }
 
 fn with_treaty(programme: Programme, i: usize, place: Treaty) -> Programme
@@ -113,6 +136,23 @@ fn place_changed(programme: Programme, letter: u8, i: usize, v: [u64; 8]) -> Pro
     }
 }
 
+// One rate changed, by its tier's letter.
+fn rate_changed(programme: Programme, letter: u8, i: usize, at: usize, rate: u64) -> Programme {
+    if 8 <= i {
+        return programme;
+    }
+    if RATES <= at {
+        return programme;
+    }
+    let risk = programme.risk;
+    let cat = programme.cat;
+    match letter {
+        b'q' => with_risk(programme, i, with_rate(risk.places[i], at, rate)),
+        b'Q' => with_cat(programme, i, with_rate(cat.places[i], at, rate)),
+        _ => programme,
+    }
+}
+
 // A programme changed as a task says; another letter changes nothing.
 pub fn changed(programme: Programme, task: Task) -> Programme {
     let v = task.numbers;
@@ -122,6 +162,7 @@ pub fn changed(programme: Programme, task: Task) -> Programme {
         b'T' => treaty_count(programme, n),
         b'R' => risk_count(programme, n),
         b'C' => cat_count(programme, n),
+        b'q' | b'Q' => rate_changed(programme, letter, n, v[1] as usize, v[2]),
         _ => place_changed(programme, letter, n, v),
     }
 }

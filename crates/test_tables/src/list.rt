@@ -33,7 +33,7 @@ fn tasked(name: &[u8], tasks: &[u8], text: &[u8]) {
                 b'w' => sizes(name, programme, text, second),
                 _ => {
                     words(name);
-                    answer(changed(programme, second), text, 1330);
+                    answer(changed(programme, second), text, 1700);
                 }
             }
         }

@@ -1,6 +1,7 @@
 // A reading case's line: refusal and line, the three counts, the numbers of every place in use, and `rest`, which
-// joins the bits of all numbers in the other places, so that 0 says that each of them is 0. A refused text has no
-// place in use, so its `rest` is that of every place.
+// joins the bits of all numbers in the other places and of all rates that are not used, so that 0 says that each of
+// them is 0. A refused text has no place in use, so its `rest` is that of every place.
+use layer::terms::RATES;
 use layer::terms::Terms;
 use libc::STDOUT_FILENO;
 use programme::contract::Layers;
@@ -29,17 +30,35 @@ fn treaty_place(t: Treaty) {
     words(b"]");
 }
 
-// [attachment limit deduct K Q premium placed]
-fn layer_place(l: Terms) {
+// Shows the first rates, as many as are used, and returns the bits of the others.
+fn rate_places(rates: [u64; RATES], used: u64) -> u64 {
+    let mut rest: u64 = 0;
+    let mut i: usize = 0;
+    while i < RATES {
+        let rate = rates[i];
+        if (i as u64) < used {
+            number(rate);
+        } else {
+            rest = rest | rate;
+        }
+        i += 1;
+    }
+    rest
+}
+
+// [attachment limit deduct K premium rates placed]; returns the bits of the rates that are not used.
+fn layer_place(l: Terms) -> u64 {
     words(b" [");
     io::print_decimal(STDOUT_FILENO, l.attachment);
     number(l.limit);
     number(l.deductible);
     number(l.reinstatements);
-    number(l.rate);
     number(l.premium);
+    let rates = l.rates;
+    let rest = rate_places(rates, l.reinstatements);
     number(l.placed);
     words(b"]");
+    rest
 }
 
 fn treaty_bits(t: Treaty) -> u64 {
@@ -47,7 +66,9 @@ fn treaty_bits(t: Treaty) -> u64 {
 }
 
 fn layer_bits(l: Terms) -> u64 {
-    l.attachment | l.limit | l.deductible | l.reinstatements | l.rate | l.premium | l.placed
+    let rates = l.rates;
+    let rest = rate_places(rates, 0);
+    l.attachment | l.limit | l.deductible | l.reinstatements | l.premium | l.placed | rest
 }
 
 // Shows the treaties in use and returns the bits of the other places.
@@ -75,7 +96,7 @@ fn layer_places(layers: Layers) -> u64 {
     while i < 8 {
         let l = layers.places[i];
         if i < count {
-            layer_place(l);
+            rest = rest | layer_place(l);
         } else {
             rest = rest | layer_bits(l);
         }

@@ -1,5 +1,5 @@
 // Writing: refusal and number, then how many bytes at the front are those of the text typed, then where the bytes as
-// lent end that follow them. The buffer is the front of 1,330 bytes, each `#`, a byte that no table text has.
+// lent end that follow them. The buffer is the front of 1,700 bytes, each `#`, a byte that no table text has.
 ghost use Prim.Native.Nat.{_≤_};
 use crate::show::number;
 use crate::show::words;
@@ -7,10 +7,10 @@ use crate::task::Task;
 use programme::contract::Programme;
 
 // How many bytes at the front are those of a text.
-fn same(bytes: &[u8; 1330], text: &[u8]) -> usize {
+fn same(bytes: &[u8; 1700], text: &[u8]) -> usize {
     let mut i: usize = 0;
     while i < text.len() {
-        if 1330 <= i {
+        if 1700 <= i {
             return i;
         }
         if bytes[i] != text[i] {
@@ -21,10 +21,10 @@ fn same(bytes: &[u8; 1330], text: &[u8]) -> usize {
     i
 }
 
-// Where the bytes as lent end, from a place on: 1,330 if all from there are so.
-fn as_lent(bytes: &[u8; 1330], from: usize) -> usize {
+// Where the bytes as lent end, from a place on: 1,700 if all from there are so.
+fn as_lent(bytes: &[u8; 1700], from: usize) -> usize {
     let mut i = from;
-    while i < 1330 {
+    while i < 1700 {
         if bytes[i] != b'#' {
             return i;
         }
@@ -35,9 +35,9 @@ fn as_lent(bytes: &[u8; 1330], from: usize) -> usize {
 
 // Writes a programme whose text is typed into a buffer of a size, and shows what writing answers.
 pub fn answer(programme: Programme, text: &[u8], size: usize)
-    requires { ⌜ size ≤ 1330 ⌝ }
+    requires { ⌜ size ≤ 1700 ⌝ }
 {
-    let mut bytes = [b'#'; 1330];
+    let mut bytes = [b'#'; 1700];
     let answer = table::write(programme, &mut bytes[..size]);
     words(b":");
     number(answer.refusal);
@@ -52,7 +52,7 @@ pub fn answer(programme: Programme, text: &[u8], size: usize)
 
 // The same with its name and size, where there is a buffer of that size.
 fn sized(name: &[u8], programme: Programme, text: &[u8], size: u64) {
-    if size <= 1330 {
+    if size <= 1700 {
         words(name);
         words(b" in");
         number(size);

@@ -49,7 +49,7 @@ module _ (b : ℕ) (t : List ℕ) (g : separated (b ∷ t) ≡ true) where
       (λ e. sym (separated-byte b t e) ∙ g)
 
 -- what a separated template prints after a number begins with no digit
-parted-ended : (t ns s : List ℕ) → parted t ≡ true → Ended s → Ended (filled t ns s)
+pub parted-ended : (t ns s : List ℕ) → parted t ≡ true → Ended s → Ended (filled t ns s)
 unfolding filled parted
 parted-ended [] ns s g h = h
 parted-ended (b ∷ t) ns s g h =
@@ -159,12 +159,16 @@ whole-read none ns e = let z : _≡_ {A = ℕ} 0 1 = cc in absurd (omega arith)
 whole-read (some (ms, [])) ns e = cc
 whole-read (some (ms, b ∷ s)) ns e = let z : _≡_ {A = ℕ} 0 1 = cc in absurd (omega arith)
 
+-- a line that a template reads has nothing after the template
+pub line-matched : (t s ns : List ℕ) → lineNumbers t s ≡ some ns → matched [] t s ≡ some (ns, [])
+unfolding lineNumbers
+line-matched t s ns e = whole-read (matched [] t s) ns e
+
 -- a line that a template reads is the template printed with the numbers read
 pub line-read : (t s ns : List ℕ) → lineNumbers t s ≡ some ns
     → (s ≡ filled t ns []) × (length ns ≡ holes t) × Each Readable ns
-unfolding lineNumbers
 line-read t s ns e =
-    let f = matched-read t [] s ns [] (whole-read (matched [] t s) ns e) in
+    let f = matched-read t [] s ns [] (line-matched t s ns e) in
     let q : ns ≡ f .numbers = f .read in
     rw q (f .text, f .count, f .readable)
 

@@ -7,6 +7,7 @@ pub mod Digits
 pub mod Runs
 pub mod Templates
 pub mod Forms
+pub mod Parts
 pub mod Matching
 pub mod Begins
 pub mod Puts

@@ -16,6 +16,7 @@ use Rattle.text.specs.Template.{eight, unmatched, matchedOf, matchedAt, 
 use Rattle.text.specs.Template.{wholeOf, lineNumbers, numbersBy}
 use Rattle.text.specs.declared.number.Number.{Number}
 use Rattle.text.specs.declared.number.Number.the-variants.{Value, Nothing}
+use Rattle.text.specs.declared.template.Place.{Place}
 use Rattle.text.specs.declared.template.Place.the-variants.{At, Nowhere}
 use Rattle.text.specs.declared.template.Matched.{Matched}
 use Rattle.text.specs.declared.template.Numbers.{Numbers}
@@ -162,6 +163,43 @@ module _ (t s : List ℕ) (at : ℕ) where
       padded : values ≡ eight (take k values)
       padded = rw (length-take-le k values (omega (arith, g .room, g .size)), ← g .zeros, take-append-drop k values)
 
+-- where what was read of a text of n bytes ends
+abbrev pub endOf : ℕ → Option (List ℕ × List ℕ) → Place
+endOf n none = Nowhere
+endOf n (some p) = At (n - length (p .1))
+
+-- a template that was read from one place of a text to another: its numbers
+pub record Read (t s : List ℕ) (at next : ℕ) : Type 0 where
+  pub numbers : List ℕ
+  pub read : matched [] t (drop at s) ≡ some (numbers, drop next s)
+  pub within : next ≤ length s
+
+module _ (t s : List ℕ) (at : ℕ) where
+  pub read-until : (next : ℕ) → at ≤ length s → endOf (length s) (matched [] t (drop at s)) ≡ At next
+      → Read t s at next
+  read-until next h y = by-read (matched [] t (drop at s)) refl y
+    where
+      by-read : (o : Option (List ℕ × List ℕ)) → matched [] t (drop at s) ≡ o → endOf (length s) o ≡ At next
+          → Read t s at next
+      by-read none e w = let z : _≡_ {A = ℕ} 0 1 = cc in absurd (omega arith)
+      by-read (some p) e w =
+          let place : length s - length (p .1) ≡ next = cc in
+          let f = matched-read t [] (drop at s) (p .0) (p .1) e in
+          let text = f .text ∙ filled-append t (f .numbers) [] (p .1) in
+          record {
+            numbers = p .0;
+            read = e ∙ rw (← place, ← rest-at s at (filled t (f .numbers) []) (p .1) h text);
+            within = omega arith;
+          }
+
+  pub not-read : endOf (length s) (matched [] t (drop at s)) ≡ Nowhere → matched [] t (drop at s) ≡ none
+  not-read y = by-read (matched [] t (drop at s)) refl y
+    where
+      by-read : (o : Option (List ℕ × List ℕ)) → matched [] t (drop at s) ≡ o → endOf (length s) o ≡ Nowhere
+          → matched [] t (drop at s) ≡ none
+      by-read none e w = e
+      by-read (some p) e w = let z : _≡_ {A = ℕ} 0 1 = cc in absurd (omega arith)
+
 -- the answer of `template::read_at` that has a place: the numbers that were read, and the place after them
 pub record Found (t s : List ℕ) (at next : ℕ) (values : List ℕ) : Type 0 where
   pub numbers : List ℕ
@@ -169,38 +207,28 @@ pub record Found (t s : List ℕ) (at next : ℕ) (values : List ℕ) : Type 0 w
   pub padded : values ≡ eight numbers
   pub within : next ≤ length s
 
+matched-end : (n : ℕ) (o : Option (List ℕ × List ℕ)) → matchedOf n o .place ≡ endOf n o
+matched-end n none = refl
+matched-end n (some p) = refl
+
 module _ (t s : List ℕ) (at : ℕ) (r : Matched) (q : r ≡ matchedAt t s at) where
+  match-end : endOf (length s) (matched [] t (drop at s)) ≡ r .place
+  unfolding matchedAt
+  match-end = sym (ap (λ (x : Matched). x .place) q ∙ matched-end (length s) (matched [] t (drop at s)))
+
   pub match-found : (next : ℕ) → at ≤ length s → r .place ≡ At next → Found t s at next (r .values)
   unfolding matchedAt
-  match-found next h y = by-read (matched [] t (drop at s)) refl
-    where
-      by-read : (o : Option (List ℕ × List ℕ)) → matched [] t (drop at s) ≡ o → Found t s at next (r .values)
-      by-read none e =
-          let w : At next ≡ Nowhere = sym y ∙ ap (λ (x : Matched). x .place) (q ∙ ap (matchedOf (length s)) e) in
-          let z : _≡_ {A = ℕ} 0 1 = cc in absurd (omega arith)
-      by-read (some p) e =
-          let w : r ≡ matchedOf (length s) (some p) = q ∙ ap (matchedOf (length s)) e in
-          let a : At next ≡ At (length s - length (p .1)) = sym y ∙ ap (λ (x : Matched). x .place) w in
-          let place : next ≡ length s - length (p .1) = cc in
-          let f = matched-read t [] (drop at s) (p .0) (p .1) e in
-          let text = f .text ∙ filled-append t (f .numbers) [] (p .1) in
-          record {
-            numbers = p .0;
-            read = e ∙ rw (place, ← rest-at s at (filled t (f .numbers) []) (p .1) h text);
-            padded = ap (λ (x : Matched). x .values) w;
-            within = omega arith;
-          }
+  match-found next h y =
+      let f = read-until t s at next h (match-end ∙ y) in
+      record {
+        numbers = f .numbers;
+        read = f .read;
+        padded = ap (λ (x : Matched). x .values) (q ∙ ap (matchedOf (length s)) (f .read));
+        within = f .within;
+      }
 
   pub match-missing : r .place ≡ Nowhere → matched [] t (drop at s) ≡ none
-  unfolding matchedAt
-  match-missing y = by-read (matched [] t (drop at s)) refl
-    where
-      by-read : (o : Option (List ℕ × List ℕ)) → matched [] t (drop at s) ≡ o → matched [] t (drop at s) ≡ none
-      by-read none e = e
-      by-read (some p) e =
-          let w : At (length s - length (p .1)) ≡ Nowhere =
-          sym (ap (λ (x : Matched). x .place) (q ∙ ap (matchedOf (length s)) e)) ∙ y in
-          let z : _≡_ {A = ℕ} 0 1 = cc in absurd (omega arith)
+  match-missing y = not-read t s at (match-end ∙ y)
 
 -- a line that is read by a template, as the answer
 module _ (t s : List ℕ) (r : Matched) (q : r ≡ matchedAt t s 0) where

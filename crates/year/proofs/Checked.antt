@@ -1,5 +1,5 @@
--- Document 01, Checked figures: H1, C1 to C8 and L1 to L4, C4 and L2 as document 02, Q-3 and Q-8, has them, as a
--- single theorem about the definitions.
+-- Document 01, Checked figures: H1, C1 to C8 and L1 to L4, the table, C4 and L2 as document 02, Q-2, Q-3 and Q-8, has
+-- them, as a single theorem about the definitions.
 -- Assumes nothing.
 use mathlib.Core.Path.{_≡_, refl}
 use mathlib.Core.List.{List, [], _∷_, _++_, map}
@@ -15,14 +15,14 @@ use Rattle.treaty.specs.Treaty.{quotaOf, surplusOf, lossOf, cessions, cededByQu
 use Rattle.treaty.specs.Treaty.{cededOf, cutToLimit, cededOfLoss}
 use Rattle.treaty.specs.Losses.{cededIn}
 use Rattle.layer.specs.declared.terms.Terms.{Terms}
-use Rattle.layer.specs.Layer.{termsOf, broughtBy, layerOf, recoveriesOf, placedOf, recoveredOf, premiumOf, recoveryOf}
-use Rattle.layer.specs.Layer.{chargeOf}
+use Rattle.layer.specs.Layer.{termsOf, broughtBy, layerOf, recoveriesOf, placedOf, recoveredOf, ratedOf, premiumOf}
+use Rattle.layer.specs.Layer.{recoveryOf, chargeOf}
 use Rattle.answer.specs.Outcome.{Outcome, fitted, answerOf, bufferAfter}
 use Rattle.programme.specs.declared.contract.Programme.{Programme}
-use Rattle.programme.specs.Ranges.{outside, treatyOutside, termsOutside, treatyNotZero, termsNotZero}
+use Rattle.programme.specs.Ranges.{outside, treatyOutside, ratesOutside, termsOutside, treatyNotZero, termsNotZero}
 use Rattle.programme.specs.Rules.{treatyFault, layerFault}
 use Rattle.programme.specs.Valid.{validTreaties, validLayers, valid}
-use Rattle.table_text.specs.Forms.{kindOf, formOfKind, formOf}
+use Rattle.table_text.specs.Forms.{kindOf, ratesText, layerNumbers, formOfKind, formOf}
 use Rattle.table_text.specs.Read.{readFrom, readOf}
 use Rattle.events.specs.Event.{closes, lossesUpTo, eventOf}
 use Rattle.events.specs.Rules.{lossOutside, eventOutside, lacking, eventFault}
@@ -35,9 +35,9 @@ use Rattle.year.specs.Run.{Left, runFrom, runOf, standingAfter}
 -- the table of H1, the run of its event text from an opened year, and the statement that it prints
 abbrev h1-table : List ℕ
 h1-table =
-    bytes "(cat (band 25000000 75000000) (deduct 75000000) (back 0 0 0) (placed 10000))\n"
-    ++ bytes "(cat (band 100000000 150000000) (deduct 0) (back 1 5000 75000000) (placed 8000))\n"
-    ++ bytes "(cat (band 250000000 150000000) (deduct 0) (back 1 10000 30000000) (placed 7200))\n"
+    bytes "(cat (band 25000000 75000000) (deduct 75000000) (back 0 0) (placed 10000))\n"
+    ++ bytes "(cat (band 100000000 150000000) (deduct 0) (back 1 75000000 5000) (placed 8000))\n"
+    ++ bytes "(cat (band 250000000 150000000) (deduct 0) (back 1 30000000 10000) (placed 7200))\n"
 
 abbrev h1 : Programme
 h1 = readOf h1-table .programme
@@ -55,7 +55,7 @@ h1-statement =
 
 -- the layer of L4
 abbrev l4 : Terms
-l4 = termsOf 500000 500000 1000000 1 0 0 10000
+l4 = termsOf 500000 500000 1000000 1 0 (0 ∷ []) 10000
 
 pub record Checked : Type 0 where
   -- the table is read, a year opened, the events text run, and the statement is in front of the buffer's other bytes
@@ -81,11 +81,11 @@ pub record Checked : Type 0 where
   pub C7 : cessions (surplusOf 1 10000 3 0) (lossOf 1 40000 8000 ∷ []) ≡ 6000 ∷ []
   pub C8 : cessions (surplusOf 1 10000 3 0) (lossOf 1 50000 8000 ∷ []) ≡ 4800 ∷ []
   -- attachment 50
-  pub L1 : map (broughtBy (termsOf 50 100 0 0 0 0 10000)) (50 ∷ 51 ∷ []) ≡ 0 ∷ 1 ∷ []
+  pub L1 : map (broughtBy (termsOf 50 100 0 0 0 [] 10000)) (50 ∷ 51 ∷ []) ≡ 0 ∷ 1 ∷ []
   -- two layer losses of 1, placed 5,000: half a cent goes up, and then 1 is recovered already
-  pub L2 : recoveriesOf (layerOf (termsOf 0 100 0 0 0 0 5000) 0) (1 ∷ 1 ∷ []) ≡ 1 ∷ 0 ∷ []
+  pub L2 : recoveriesOf (layerOf (termsOf 0 100 0 0 0 [] 5000) 0) (1 ∷ 1 ∷ []) ≡ 1 ∷ 0 ∷ []
   -- used 150 and used 200, with one reinstatement of 100
-  pub L3 : map (premiumOf (termsOf 0 100 0 1 10000 1000 10000)) (150 ∷ 200 ∷ []) ≡ 1000 ∷ 1000 ∷ []
+  pub L3 : map (premiumOf (termsOf 0 100 0 1 1000 (10000 ∷ []) 10000)) (150 ∷ 200 ∷ []) ≡ 1000 ∷ 1000 ∷ []
   -- the five losses of source document 000
   pub L4 : recoveriesOf (layerOf l4 0) (map (broughtBy l4) (750000 ∷ 2000000 ∷ 1000000 ∷ 250000 ∷ 1000000 ∷ []))
       ≡ 0 ∷ 0 ∷ 250000 ∷ 0 ∷ 500000 ∷ []
@@ -93,11 +93,11 @@ pub record Checked : Type 0 where
 pub checked : Checked
 unfolding
     rounded printedBy printed digitOf readOn number capital filled matched wholeOf lineNumbers linesOf
-    cededByQuota cededBySurplus cededOf cutToLimit cededOfLoss placedOf recoveredOf premiumOf recoveryOf
-    chargeOf kindOf formOfKind formOf outside treatyOutside termsOutside treatyNotZero termsNotZero treatyFault
-    layerFault readFrom readOf validTreaties validLayers valid closes lossesUpTo eventOf lossOutside
-    eventOutside lacking eventFault eventsOf eventsFrom cededIn subjectOf statementText openOf standingPasses fitted
-    runFrom runOf
+    cededByQuota cededBySurplus cededOf cutToLimit cededOfLoss placedOf recoveredOf ratedOf premiumOf recoveryOf
+    chargeOf kindOf ratesText layerNumbers formOfKind formOf outside treatyOutside ratesOutside termsOutside
+    treatyNotZero termsNotZero treatyFault layerFault readFrom readOf validTreaties validLayers valid closes
+    lossesUpTo eventOf lossOutside eventOutside lacking eventFault eventsOf eventsFrom cededIn subjectOf
+    statementText openOf standingPasses fitted runFrom runOf
 checked = record {
   H1-table = refl;
   H1-opening = refl;

@@ -12,12 +12,12 @@ use Rattle.text.specs.Number.{printedBy, printed, digitOf, readOn, number}
 use Rattle.text.specs.Template.{capital, filled, matched}
 use Rattle.text.specs.Lines.{linesOf}
 use Rattle.treaty.specs.Treaty.{quotaOf}
-use Rattle.layer.specs.Layer.{termsOf, placedOf, recoveredOf, premiumOf, recoveryOf, chargeOf}
+use Rattle.layer.specs.Layer.{termsOf, placedOf, recoveredOf, ratedOf, premiumOf, recoveryOf, chargeOf}
 use Rattle.answer.specs.declared.Answer.{Answer}
 use Rattle.answer.specs.Outcome.{Outcome, fitted, answerOf, bufferAfter}
 use Rattle.programme.specs.declared.contract.Programme.{Programme}
 use Rattle.programme.specs.Contracts.{noContracts, programmeOf}
-use Rattle.programme.specs.Ranges.{outside, treatyOutside, termsOutside, treatyNotZero, termsNotZero}
+use Rattle.programme.specs.Ranges.{outside, treatyOutside, ratesOutside, termsOutside, treatyNotZero, termsNotZero}
 use Rattle.programme.specs.Valid.{validTreaties, validLayers, valid}
 use Rattle.events.specs.Event.{closes, lossesUpTo, eventOf}
 use Rattle.events.specs.Rules.{lossOutside, eventOutside, lacking, eventFault}
@@ -33,15 +33,15 @@ use Rattle.year.proofs.Examples.{standing}
 abbrev programme : Programme
 programme = programmeOf (record {
   treaties = quotaOf 2 4000 0 0 ∷ [];
-  risk = termsOf 500 1000 100 2 5000 800 3330 ∷ [];
-  cat = termsOf 2000 3000 0 0 0 0 7200 ∷ [];
+  risk = termsOf 500 1000 100 2 800 (5000 ∷ 5000 ∷ []) 3330 ∷ [];
+  cat = termsOf 2000 3000 0 0 0 [] 7200 ∷ [];
 })
 
 -- bands that overlap by a cent
 abbrev overlapping : Programme
 overlapping = programmeOf (record {
   treaties = [];
-  risk = termsOf 50 50 0 0 0 0 7200 ∷ termsOf 99 1 0 0 0 0 7200 ∷ [];
+  risk = termsOf 50 50 0 0 0 [] 7200 ∷ termsOf 99 1 0 0 0 [] 7200 ∷ [];
   cat = [];
 })
 
@@ -117,9 +117,9 @@ pub record Corners : Type 0 where
 pub corners : Corners
 unfolding
     rounded printedBy printed digitOf readOn number capital filled matched linesOf placedOf recoveredOf
-    premiumOf recoveryOf chargeOf outside treatyOutside termsOutside treatyNotZero termsNotZero validTreaties
-    validLayers valid closes lossesUpTo eventOf lossOutside eventOutside lacking eventFault eventsOf readFrom
-    subjectOf statementText standingPasses openOf fitted runFrom runOf
+    ratedOf premiumOf recoveryOf chargeOf outside treatyOutside ratesOutside termsOutside treatyNotZero termsNotZero
+    validTreaties validLayers valid closes lossesUpTo eventOf lossOutside eventOutside lacking eventFault eventsOf
+    readFrom subjectOf statementText standingPasses openOf fitted runFrom runOf
 corners = record {
   invalid = refl;
   invalid-first = refl;

@@ -15,14 +15,14 @@ use Rattle.text.specs.Template.{capital, filled, matched, wholeOf, lineNumbers}
 use Rattle.text.specs.Lines.{linesOf}
 use Rattle.treaty.specs.Treaty.{cededByQuota, cededBySurplus, cededOf, cutToLimit, cededOfLoss}
 use Rattle.treaty.specs.Losses.{cededIn}
-use Rattle.layer.specs.Layer.{placedOf, recoveredOf, premiumOf, recoveryOf, chargeOf}
+use Rattle.layer.specs.Layer.{placedOf, recoveredOf, ratedOf, premiumOf, recoveryOf, chargeOf}
 use Rattle.answer.specs.Outcome.{fitted}
 use Rattle.programme.specs.declared.contract.Programme.{Programme}
 use Rattle.programme.specs.Contracts.{contractsIn}
-use Rattle.programme.specs.Ranges.{outside, treatyOutside, termsOutside, treatyNotZero, termsNotZero}
+use Rattle.programme.specs.Ranges.{outside, treatyOutside, ratesOutside, termsOutside, treatyNotZero, termsNotZero}
 use Rattle.programme.specs.Rules.{treatyFault, layerFault}
 use Rattle.programme.specs.Valid.{validTreaties, validLayers, valid}
-use Rattle.table_text.specs.Forms.{kindOf, formOfKind, formOf}
+use Rattle.table_text.specs.Forms.{kindOf, ratesText, layerNumbers, formOfKind, formOf}
 use Rattle.table_text.specs.Read.{readFrom, readOf}
 use Rattle.events.specs.Event.{closes, lossesUpTo, eventOf, statedIn}
 use Rattle.events.specs.Rules.{lossOutside, eventOutside, lacking, eventFault}
@@ -44,10 +44,10 @@ abbrev table : List ℕ
 table =
     bytes "(quota 1 (cede 4000) (capacity 0) (event 6000))\n"
     ++ bytes "(surplus 3 (retain 1000) (lines 3) (event 0))\n"
-    ++ bytes "(risk (band 500 1000) (deduct 100) (back 3 5000 800) (placed 3333))\n"
-    ++ bytes "(risk (band 1600 900) (deduct 0) (back 3 2000 700) (placed 9750))\n"
-    ++ bytes "(cat (band 2000 3000) (deduct 500) (back 1 10000 600) (placed 7200))\n"
-    ++ bytes "(cat (band 6000 2500) (deduct 0) (back 1 2500 900) (placed 9750))\n"
+    ++ bytes "(risk (band 500 1000) (deduct 100) (back 3 800 5000 5000 5000) (placed 3333))\n"
+    ++ bytes "(risk (band 1600 900) (deduct 0) (back 3 700 2000 2000 2000) (placed 9750))\n"
+    ++ bytes "(cat (band 2000 3000) (deduct 500) (back 1 600 10000) (placed 7200))\n"
+    ++ bytes "(cat (band 6000 2500) (deduct 0) (back 1 900 2500) (placed 9750))\n"
 
 abbrev programme : Programme
 programme = readOf table .programme
@@ -198,11 +198,11 @@ pub record Examples : Type 0 where
 pub examples : Examples
 unfolding
     rounded printedBy printed digitOf readOn number capital filled matched wholeOf lineNumbers linesOf
-    cededByQuota cededBySurplus cededOf cutToLimit cededOfLoss placedOf recoveredOf premiumOf recoveryOf
-    chargeOf kindOf formOfKind formOf outside treatyOutside termsOutside treatyNotZero termsNotZero treatyFault
-    layerFault readFrom readOf validTreaties validLayers valid closes lossesUpTo eventOf statedIn lossOutside
-    eventOutside lacking eventFault eventsOf eventsFrom cededIn subjectOf statementText standingPasses fitted
-    runFrom runOf recoveryAdded
+    cededByQuota cededBySurplus cededOf cutToLimit cededOfLoss placedOf recoveredOf ratedOf premiumOf recoveryOf
+    chargeOf kindOf ratesText layerNumbers formOfKind formOf outside treatyOutside ratesOutside termsOutside
+    treatyNotZero termsNotZero treatyFault layerFault readFrom readOf validTreaties validLayers valid closes
+    lossesUpTo eventOf statedIn lossOutside eventOutside lacking eventFault eventsOf eventsFrom cededIn subjectOf
+    statementText standingPasses fitted runFrom runOf recoveryAdded
 examples = record {
   replies = refl;
   unmoved = refl;

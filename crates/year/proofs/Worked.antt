@@ -1,6 +1,7 @@
 -- Statements worked by hand: two events of three losses each, under two treaties, two risk layers and two catastrophe
--- layers; two events of one day under two treaties with different event limits, with a layer's ledger of them; and an
--- event in which the cession and each of three recoveries is rounded up.
+-- layers; two events of one day under two treaties with different event limits, with a layer's ledger of them; an
+-- event in which the cession and each of three recoveries is rounded up; and three events under layers whose
+-- reinstatements have different rates.
 -- Assumes nothing.
 use mathlib.Core.Path.{_≡_, refl}
 use mathlib.Core.List.{List, [], _∷_, map}
@@ -9,7 +10,7 @@ use Rattle.treaty.specs.declared.Treaty.{Treaty}
 use Rattle.treaty.specs.Treaty.{quotaOf, surplusOf, lossOf, cededByQuota, cededBySurplus, cededOf}
 use Rattle.treaty.specs.Treaty.{cutToLimit, cededOfLoss}
 use Rattle.treaty.specs.Losses.{cededIn}
-use Rattle.layer.specs.Layer.{termsOf, layerOf, placedOf, recoveredOf, premiumOf, recoveryOf, chargeOf}
+use Rattle.layer.specs.Layer.{termsOf, layerOf, placedOf, recoveredOf, ratedOf, premiumOf, recoveryOf, chargeOf}
 use Rattle.events.specs.Event.{Event}
 use Rattle.year.specs.Event.{Year, subjectOf}
 use Rattle.year.specs.Statement.{Statement, statementOf}
@@ -19,13 +20,15 @@ use Rattle.year.specs.Ledger.{Entry, firstEntry, recoveryAdded, booked}
 abbrev treaties : List Treaty
 treaties = quotaOf 4 3333 0 1232 ∷ surplusOf 6 900 3 0 ∷ []
 
--- premiums of 3 / 7 and 8 / 9, of 87 / 110 and 99 / 80 of B
+-- premiums of 3 / 7 and 8 / 9, of 87 / 110 and 99 / 80 of the slices
 abbrev year : Year
 year = record {
   risk =
-      layerOf (termsOf 500 700 200 2 4000 750 3333) 0 ∷ layerOf (termsOf 1200 900 150 2 8000 1000 7201) 0 ∷ [];
+      layerOf (termsOf 500 700 200 2 750 (4000 ∷ 4000 ∷ []) 3333) 0
+      ∷ layerOf (termsOf 1200 900 150 2 1000 (8000 ∷ 8000 ∷ []) 7201) 0 ∷ [];
   cat =
-      layerOf (termsOf 1300 1100 250 1 6000 1450 9750) 0 ∷ layerOf (termsOf 2500 800 0 1 9000 1100 7201) 0 ∷ [];
+      layerOf (termsOf 1300 1100 250 1 1450 (6000 ∷ []) 9750) 0
+      ∷ layerOf (termsOf 2500 800 0 1 1100 (9000 ∷ []) 7201) 0 ∷ [];
 }
 
 -- Of the first event's losses the treaties leave 1,735, 1,660 and 823, for the last one's 396 are cut to what 868
@@ -62,7 +65,7 @@ shown = record {
 
 pub worked : statementOf treaties year events ≡ shown
 unfolding
-    rounded cededByQuota cededBySurplus cededOf cutToLimit cededOfLoss cededIn placedOf recoveredOf premiumOf
+    rounded cededByQuota cededBySurplus cededOf cutToLimit cededOfLoss cededIn placedOf recoveredOf ratedOf premiumOf
     recoveryOf chargeOf subjectOf
 worked = refl
 
@@ -100,8 +103,8 @@ limits-worked = refl
 -- The ledger's y of each loss: 900, 2,250, 1,000 and 851, then 2,698, 7 and 500. Above an attachment of 800, up to 600
 -- of each, they bring a layer 100 + 600 + 200 + 51 + 600; without the limits it would be less.
 pub limits-booked : map (λ (e : Entry). e .losses)
-    (booked limitedTreaties (record { risk = firstEntry (termsOf 800 600 0 1 0 0 10000) ∷ []; cat = [] }) limitedEvents
-    .risk) ≡ 1551 ∷ []
+    (booked limitedTreaties (record { risk = firstEntry (termsOf 800 600 0 1 0 (0 ∷ []) 10000) ∷ []; cat = [] })
+    limitedEvents .risk) ≡ 1551 ∷ []
 unfolding rounded cededByQuota cededBySurplus cededOf cutToLimit cededOfLoss cededIn placedOf recoveredOf recoveryAdded
 limits-booked = refl
 
@@ -110,8 +113,8 @@ abbrev threeLayers : Year
 threeLayers = record {
   risk = [];
   cat =
-      layerOf (termsOf 100 31 0 1 5000 10 5000) 0 ∷ layerOf (termsOf 150 33 0 1 10000 50 3333) 0
-      ∷ layerOf (termsOf 200 37 0 2 7500 37 7201) 0 ∷ [];
+      layerOf (termsOf 100 31 0 1 10 (5000 ∷ []) 5000) 0 ∷ layerOf (termsOf 150 33 0 1 50 (10000 ∷ []) 3333) 0
+      ∷ layerOf (termsOf 200 37 0 2 37 (7500 ∷ 7500 ∷ []) 7201) 0 ∷ [];
 }
 
 -- Of 101 the quota share takes 50.5, which is 51, so the layers' subject is 250. It brings them 31, 33 and 37, of
@@ -136,6 +139,51 @@ pub rounded-up : statementOf (quotaOf 7 5000 0 0 ∷ []) threeLayers
       total = record { gross = 301; ceded = 51; risk = 0; cat = 54; net = 196; premium = 40 };
     }
 unfolding
-    rounded cededByQuota cededBySurplus cededOf cutToLimit cededOfLoss cededIn placedOf recoveredOf premiumOf
+    rounded cededByQuota cededBySurplus cededOf cutToLimit cededOfLoss cededIn placedOf recoveredOf ratedOf premiumOf
     recoveryOf chargeOf subjectOf
 rounded-up = refl
+
+-- A risk layer with three rates, and a catastrophe layer whose first reinstatement is free.
+abbrev ratedYear : Year
+ratedYear = record {
+  risk = layerOf (termsOf 300 400 100 3 999 (1 ∷ 20000 ∷ 7 ∷ []) 3333) 0 ∷ [];
+  cat = layerOf (termsOf 700 500 0 2 640 (0 ∷ 10000 ∷ []) 7201) 0 ∷ [];
+}
+
+-- The quota share takes 300 and 278. The risk layer's used amount is 650, 1,451 and 1,600 after the events, the
+-- catastrophe layer's 500, 1,000 and 1,500. The subjects of the latter are 1,333, 1,644 and 1,451.
+abbrev ratedEvents : List Event
+ratedEvents =
+    record { day = 12; losses = lossOf 2 1 1200 ∷ lossOf 0 1 650 ∷ [] }
+    ∷ record { day = 250; losses = lossOf 0 1 777 ∷ lossOf 2 1 1111 ∷ lossOf 0 1 301 ∷ [] }
+    ∷ record { day = 250; losses = lossOf 0 1 1500 ∷ [] } ∷ []
+
+-- The risk layer's slices are 133 and 84, then 133, 134 and 133: 1,680,133 and 2,681,064 at their rates, and 999 of
+-- 4,000,000 of it 419.61 and 669.60. The catastrophe layer's are 360, then 360 and 360: nothing, then 460.8. The third
+-- event finds no reinstatement left.
+pub rates-worked : statementOf (quotaOf 2 2500 0 0 ∷ []) ratedYear ratedEvents
+    ≡ record {
+      events =
+          record {
+            day = 12;
+            amounts = record { gross = 1850; ceded = 300; risk = 217; cat = 360; net = 973; premium = 420 };
+          }
+          ∷ record {
+            day = 250;
+            amounts = record { gross = 2189; ceded = 278; risk = 267; cat = 360; net = 1284; premium = 711 };
+          }
+          ∷ record {
+            day = 250;
+            amounts = record { gross = 1500; ceded = 0; risk = 49; cat = 360; net = 1091; premium = 0 };
+          } ∷ [];
+      treaties = record { number = 2; ceded = 578 } ∷ [];
+      layers = record {
+        risk = record { deductible = 0; cover = 0; recovered = 533; premium = 670 } ∷ [];
+        cat = record { deductible = 0; cover = 0; recovered = 1080; premium = 461 } ∷ [];
+      };
+      total = record { gross = 5539; ceded = 578; risk = 533; cat = 1080; net = 3348; premium = 1131 };
+    }
+unfolding
+    rounded cededByQuota cededBySurplus cededOf cutToLimit cededOfLoss cededIn placedOf recoveredOf ratedOf premiumOf
+    recoveryOf chargeOf subjectOf
+rates-worked = refl

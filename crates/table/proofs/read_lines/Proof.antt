@@ -1,5 +1,6 @@
 -- `table::read_lines` meets its contract.
 -- Assumes nothing.
+use mathlib.Core.Path.{sym, _∙_}
 use Prim.Native.Nat.{_-_}
 use lib.ListN.{length}
 use borrow.Author.Needs.{needs}
@@ -13,6 +14,57 @@ Inv-loop text treaties₀ risk₀ cat₀ before₀ number₀ at₀ treaties risk
 
 abbrev μ-loop : tie.MeasureT-loop
 μ-loop text treaties₀ risk₀ cat₀ before₀ number₀ at₀ treaties risk cat before number at = length text - at
+
+-- the places of a line: where it was found to be without fault, and on the way there
+module _ (c : tie.Else2 Inv-loop μ-loop) where
+  abbrev tested : tie.After-fault Inv-loop μ-loop
+  tested = c .before
+
+  abbrev known : tie.After-form Inv-loop μ-loop
+  known = tested .before .before .before
+
+  abbrev lined : tie.After-read Inv-loop μ-loop
+  lined = known .before .before
+
+  abbrev fed : tie.Else1 Inv-loop μ-loop
+  fed = lined .before .before
+
+  abbrev ended : tie.After-end Inv-loop μ-loop
+  ended = fed .before
+
+  abbrev turn : tie.In-loop Inv-loop μ-loop
+  turn = ended .before
+
+  abbrev loop : tie.At-loop Inv-loop μ-loop
+  loop = turn .before
+
+  abbrev start : tie.Start Inv-loop μ-loop
+  start = loop .before .before .before .before .before .before
+
+-- and where its contract is about to enter: all that is known of it there
+module _ (c : tie.After-after Inv-loop μ-loop) where
+  abbrev placed : tie.After-place Inv-loop μ-loop
+  placed = c .before
+
+  abbrev fine : tie.Else2 Inv-loop μ-loop
+  fine = placed .before
+
+  entering : law.Entering (start fine .args .text .now) (loop fine .loop .treaties) (loop fine .loop .risk)
+      (loop fine .loop .cat) (loop fine .loop .before) (loop fine .loop .number) (loop fine .loop .at)
+      (ended fine .end .result) (lined fine .read .result) (known fine .form .given .0 .0) (placed .place .result)
+      (c .after .result)
+  entering = record {
+    going = loop fine .loop .inv;
+    end = ended fine .end .ensures .0;
+    inside = turn fine .loop-test .taken;
+    within = ended fine .end .ensures .2;
+    feed = fed fine .if1 .left;
+    line = lined fine .read .ensures;
+    kind = known fine .form .given .1;
+    fine = sym (tested fine .fault .ensures) ∙ fine .if2 .left;
+    place = placed .place .ensures;
+    after = c .after .ensures;
+  }
 
 no-treaty-requires : tie.Need-no-treaty-requires Inv-loop μ-loop
 no-treaty-requires c κs = search needs
@@ -53,8 +105,8 @@ part-read-end c = search needs
 read-requires : tie.Need-read-requires Inv-loop μ-loop
 read-requires c κs = search needs
 
-enum-known-contract : tie.Need-enum-known-contract Inv-loop μ-loop
-enum-known-contract c = search needs
+enum-known-form : tie.Need-enum-known-form Inv-loop μ-loop
+enum-known-form c = search needs
 
 enum-told : tie.Need-enum-told Inv-loop μ-loop
 enum-told c = search needs
@@ -75,7 +127,11 @@ returns-3 : tie.Need-returns-3 Inv-loop μ-loop
 returns-3 c = search law.at-fault
 
 add-at : tie.Need-add-at Inv-loop μ-loop
-add-at c = search needs
+add-at c =
+    let begun = loop c in
+    let e = ended c .end .ensures in
+    let l = fed c .if1 .left in
+    search needs
 
 place-requires : tie.Need-place-requires Inv-loop μ-loop
 place-requires c κs = search needs
@@ -83,50 +139,56 @@ place-requires c κs = search needs
 after-requires : tie.Need-after-requires Inv-loop μ-loop
 after-requires c κs = (search law.eight-at-most, search law.without-fault)
 
-enum-known-contract-2 : tie.Need-enum-known-contract-2 Inv-loop μ-loop
-enum-known-contract-2 c = search needs
+enum-known-kind : tie.Need-enum-known-kind Inv-loop μ-loop
+enum-known-kind c = search needs
 
 mul-treaties : tie.Need-mul-treaties Inv-loop μ-loop
-mul-treaties c = search law.treaty-offset
+mul-treaties c =
+    let h = law.treaty-offset (entering (c .before .before .before)) _ (c .before .kind .given .1) in
+    search needs
 
 array-set-from-treaties : tie.Need-array-set-from-treaties Inv-loop μ-loop
-array-set-from-treaties c = search law.treaty-place
+array-set-from-treaties c = law.treaty-place (entering (c .before .before .before)) _ (c .before .kind .given .1)
 
 loop-less : tie.Need-loop-less Inv-loop μ-loop
-loop-less c = search needs
+loop-less c = law.less-left (entering (c .before .before .before))
 
 loop-again : tie.Need-loop-again Inv-loop μ-loop
-loop-again c = search law.treaty-enters
+loop-again c = law.treaty-enters (entering (c .before .before .before)) _ (c .before .kind .given .1)
 
-enum-known-contract-3 : tie.Need-enum-known-contract-3 Inv-loop μ-loop
-enum-known-contract-3 c = search needs
+enum-told-2 : tie.Need-enum-told-2 Inv-loop μ-loop
+enum-told-2 c = search needs
 
 mul-risk : tie.Need-mul-risk Inv-loop μ-loop
-mul-risk c = search law.risk-offset
+mul-risk c =
+    let h = law.risk-offset (entering (c .before .before)) (c .enum-told2 .given .1) in
+    search needs
 
 array-set-from-risk : tie.Need-array-set-from-risk Inv-loop μ-loop
-array-set-from-risk c = search law.risk-place
+array-set-from-risk c = law.risk-place (entering (c .before .before)) (c .enum-told2 .given .1)
 
 loop-less-2 : tie.Need-loop-less-2 Inv-loop μ-loop
-loop-less-2 c = search needs
+loop-less-2 c = law.less-left (entering (c .before .before))
 
 loop-again-2 : tie.Need-loop-again-2 Inv-loop μ-loop
-loop-again-2 c = search law.risk-enters
+loop-again-2 c = law.risk-enters (entering (c .before .before)) (c .enum-told2 .given .1)
 
-enum-known-contract-4 : tie.Need-enum-known-contract-4 Inv-loop μ-loop
-enum-known-contract-4 c = search needs
+enum-told-3 : tie.Need-enum-told-3 Inv-loop μ-loop
+enum-told-3 c = search needs
 
 mul-cat : tie.Need-mul-cat Inv-loop μ-loop
-mul-cat c = search law.cat-offset
+mul-cat c =
+    let h = law.cat-offset (entering (c .before .before)) (c .enum-told3 .given .1) in
+    search needs
 
 array-set-from-cat : tie.Need-array-set-from-cat Inv-loop μ-loop
-array-set-from-cat c = search law.cat-place
+array-set-from-cat c = law.cat-place (entering (c .before .before)) (c .enum-told3 .given .1)
 
 loop-less-3 : tie.Need-loop-less-3 Inv-loop μ-loop
-loop-less-3 c = search needs
+loop-less-3 c = law.less-left (entering (c .before .before))
 
 loop-again-3 : tie.Need-loop-again-3 Inv-loop μ-loop
-loop-again-3 c = search law.cat-enters
+loop-again-3 c = law.cat-enters (entering (c .before .before)) (c .enum-told3 .given .1)
 
 accepted-requires : tie.Need-accepted-requires Inv-loop μ-loop
 accepted-requires c κs = search needs
@@ -153,7 +215,7 @@ read-lines-spec =
     part-read-start
     part-read-end
     read-requires
-    enum-known-contract
+    enum-known-form
     enum-told
     refused-requires-2
     returns-2
@@ -163,17 +225,17 @@ read-lines-spec =
     add-at
     place-requires
     after-requires
-    enum-known-contract-2
+    enum-known-kind
     mul-treaties
     array-set-from-treaties
     loop-less
     loop-again
-    enum-known-contract-3
+    enum-told-2
     mul-risk
     array-set-from-risk
     loop-less-2
     loop-again-2
-    enum-known-contract-4
+    enum-told-3
     mul-cat
     array-set-from-cat
     loop-less-3

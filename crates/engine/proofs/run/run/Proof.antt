@@ -1,6 +1,6 @@
 -- `engine::run::run` meets its contract.
 -- Assumes nothing.
-use mathlib.Core.Path.{_≡_, sym, _∙_}
+use mathlib.Core.Path.{_≡_, refl, sym, _∙_}
 use Prim.Native.Nat.{_≤_}
 use mathlib.Core.Bool.{true}
 use borrow.Author.Needs.{needs}
@@ -38,9 +38,9 @@ module _ (c : tie.After-register-of) where
   abbrev tested : tie.After-passes
   tested = c .before .before .before
 
-module _ (c : tie.After-laid-out2) where
+module _ (c : tie.After-cat2) where
   abbrev registered : tie.After-register-of
-  registered = c .before .before
+  registered = c .before .before .before .before .before .before
 
 -- a standing has eight places a tier
 eight-risk : (c : tie.Start) → length (c .args .standing .risk) ≡ 8
@@ -96,11 +96,17 @@ mul-cat-end c =
 register-of-requires : tie.Need-register-of-requires
 register-of-requires c κs = valid-tells _ (is-valid (c .before .before)) .0
 
-laid-out-requires : tie.Need-laid-out-requires
-laid-out-requires c κs = few-risk-layers (tested c)
+slice-aggregate-lay-out : tie.Need-slice-aggregate-lay-out
+slice-aggregate-lay-out c = search needs
 
-laid-out-requires-2 : tie.Need-laid-out-requires-2
-laid-out-requires-2 c κs = few-cat-layers (tested (c .before))
+lay-out-requires : tie.Need-lay-out-requires
+lay-out-requires c κs = (valid-tells _ (is-valid (tested (c .before))) .1, refl)
+
+slice-aggregate-lay-out-2 : tie.Need-slice-aggregate-lay-out-2
+slice-aggregate-lay-out-2 c = search needs
+
+lay-out-requires-2 : tie.Need-lay-out-requires-2
+lay-out-requires-2 c κs = (valid-tells _ (is-valid (tested (c .before .before .before .before))) .2, refl)
 
 slice-aggregate-placed : tie.Need-slice-aggregate-placed
 slice-aggregate-placed c = search needs
@@ -128,7 +134,8 @@ placed-requires c κs =
     let t = tested (registered o) in
     numbers.can-run (start t .args .programme) (start t .args .standing) (is-valid t)
     (sym (t .passes .ensures) ∙ short .before .if2 .taken) (eight-risk (start t)) (eight-cat (start t)) _ _ _
-    (registered o .register-of .ensures) (o .before .laid-out .ensures) (o .laid-out2 .ensures)
+    (registered o .register-of .ensures) (o .before .before .before .before .lay-out .ensures)
+    (o .before .lay-out2 .ensures)
     (short .if3 .left)
 
 same-length : tie.Need-same-length
@@ -144,7 +151,8 @@ returns-4 c =
     (t .passes .ensures) (short .before .if2 .taken) (short .if3 .left) _ _
     (numbers.as-laid-out (start t .args .programme) (start t .args .standing) (is-valid t)
     (sym (t .passes .ensures) ∙ short .before .if2 .taken) (eight-risk (start t)) (eight-cat (start t)) _ _ _
-    (registered o .register-of .ensures) (o .before .laid-out .ensures) (o .laid-out2 .ensures)
+    (registered o .register-of .ensures) (o .before .before .before .before .lay-out .ensures)
+    (o .before .lay-out2 .ensures)
     _ (start t .args .buffer .now) _ _ _ (placed .placed .ensures))
 
 pub run-spec : {M : Type 1} → statement M
@@ -160,8 +168,10 @@ run-spec =
     refused-requires-3
     returns-3
     register-of-requires
-    laid-out-requires
-    laid-out-requires-2
+    slice-aggregate-lay-out
+    lay-out-requires
+    slice-aggregate-lay-out-2
+    lay-out-requires-2
     mul-risk-end
     mul-cat-end
     slice-aggregate-placed

@@ -6,10 +6,10 @@ use Rattle.layer.proofs.numbers.layer_at.Statement.{statement}
 use Rattle.layer.proofs.numbers.layer_at.Tie as tie
 
 mul-at : tie.Need-mul-at
-mul-at c = search needs
+mul-at c = let inside = law.numbers-inside _ _ (c .before .before .pre .0) in search needs
 
 add-terms-of : tie.Need-add-terms-of
-add-terms-of c = search needs
+add-terms-of c = let inside = law.numbers-inside _ _ (c .before .before .pre .0) in search needs
 
 mul-terms-of : tie.Need-mul-terms-of
 mul-terms-of c = let inside = law.numbers-inside _ _ (c .before .before .pre .0) in search needs

@@ -59,11 +59,11 @@ stayed = (
 
 -- the bytes of a layer's record
 abbrev width : ℕ
-width = 64
+width = 216
 
 -- what is read past the end of a list
 abbrev none : Layer
-none = layerOf (termsOf 0 0 0 0 0 0 0) 0
+none = layerOf (termsOf 0 0 0 0 0 [] 0) 0
 
 -- the machine values of a layer
 abbrev layer-vals : Layer → List Val

@@ -133,7 +133,7 @@ module _ {M : Type 1} (𝓤 : URA M) (H : Heap 𝓤) (A : Atoms 𝓤) (W : Given
       ∙ g .1 .0 .1
 
   room : Room L.the-row (length used)
-  room = let c = count in (omega arith, (let h : length used * 64 < 2 ^ 63 = omega arith in h))
+  room = let c = count in (omega arith, (let h : length used * 216 < 2 ^ 63 = omega arith in h))
 
   abbrev Arg : Type 0
   Arg = List Layer × (ℕ × (RefT (List ℕ) × (Sums × Unit {0})))

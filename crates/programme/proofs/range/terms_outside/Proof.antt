@@ -38,8 +38,8 @@ outside-requires-6 c κs = search needs
 add-result-5 : tie.Need-add-result-5
 add-result-5 c = search needs
 
-outside-requires-7 : tie.Need-outside-requires-7
-outside-requires-7 c κs = search needs
+rates-outside-requires : tie.Need-rates-outside-requires
+rates-outside-requires c κs = search needs
 
 add-result-6 : tie.Need-add-result-6
 add-result-6 c = search needs
@@ -63,6 +63,6 @@ terms-outside-spec =
     add-result-4
     outside-requires-6
     add-result-5
-    outside-requires-7
+    rates-outside-requires
     add-result-6
     returns)

@@ -19,23 +19,45 @@ largest-requires c κs = search needs
 reached-requires : tie.Need-reached-requires
 reached-requires c κs = search needs
 
-returns : tie.Need-returns
-returns c = (search law.nothing-borne, search law.places-same)
-
-records-requires : tie.Need-records-requires
-records-requires c κs = (omega arith, search law.reached-few, search law.reached-inside, search law.reached-places)
-
-bear-first-requires : tie.Need-bear-first-requires
-bear-first-requires c κs = (search law.reached-few, search law.records-sound, search none-ample)
-
-store-requires : tie.Need-store-requires
-store-requires c κs = (search law.reached-places, search law.reached-few)
+exhausted-requires : tie.Need-exhausted-requires
+exhausted-requires c κs = (search law.reached-inside, search law.reached-places, search law.bears-sound)
 
 same-length : tie.Need-same-length
 same-length c = search needs
 
+returns : tie.Need-returns
+returns c = (search law.nothing-borne, search law.places-same)
+
+sub-count : tie.Need-sub-count
+sub-count c = search law.exhausted-inside
+
+records-requires : tie.Need-records-requires
+records-requires c κs = (search law.moved-few, search law.moved-inside, search law.moved-places)
+
+bear-first-requires : tie.Need-bear-first-requires
+bear-first-requires c κs = (search law.moved-few, search law.records-sound, search none-ample)
+
+store-requires : tie.Need-store-requires
+store-requires c κs = (search law.moved-places, search law.moved-few)
+
+same-length-2 : tie.Need-same-length-2
+same-length-2 c = search needs
+
 returns-2 : tie.Need-returns-2
-returns-2 c = (search law.sums-borne, search law.places-borne)
+returns-2 c =
+    let begun = c .before .before .before .before .before .before .before .before .before .before .before in
+    let reach = begun .before .before .reached .ensures in
+    let most = begun .before .before .before .largest .ensures in
+    let start = begun .before .before .before .before .before .before .before .before .before in
+    let xs = start .args .subjects .now in
+    let loaded = c .before .before .before .before .before .before .before .before .records .ensures in
+    let borne = c .before .before .before .before .before .before .before .bear-first .ensures in
+    let empty = begun .before .before .before .before in (
+      law.sums-borne (start .pre) xs _ _ most reach _ (begun .exhausted .ensures) _ loaded _
+          (empty .before .none .ensures) (empty .none2 .ensures) _ (borne .1),
+      law.places-borne (start .pre) xs _ _ most reach _ (begun .exhausted .ensures) _ loaded _ (borne .0) _
+          (c .before .before .before .store .ensures),
+    )
 
 pub bear-spec : {M : Type 1} → statement M
 bear-spec =
@@ -45,9 +67,12 @@ bear-spec =
     none-requires-2
     largest-requires
     reached-requires
+    exhausted-requires
+    same-length
     returns
+    sub-count
     records-requires
     bear-first-requires
     store-requires
-    same-length
+    same-length-2
     returns-2)

@@ -1,5 +1,6 @@
 -- `standings::tier::records` meets its contract.
 -- Assumes nothing.
+use mathlib.Core.Path.{refl}
 use Prim.Native.Nat.{_-_}
 use borrow.Author.Needs.{needs}
 use Rattle.layer.specs.Numbers.{tierFrom}
@@ -8,19 +9,27 @@ use Rattle.standings.proofs.tier.records.Statement.{statement}
 use Rattle.standings.proofs.tier.records.Tie as tie
 
 abbrev Inv-loop : tie.InvT-loop
-Inv-loop terms spent count layers₀ i₀ layers i = law.Loading count (tierFrom terms) spent layers i
+Inv-loop terms spent from count layers₀ i₀ layers i = law.Loading from count (tierFrom terms) spent layers i
 
 abbrev μ-loop : tie.MeasureT-loop
-μ-loop terms spent count layers₀ i₀ layers i = count - i
+μ-loop terms spent from count layers₀ i₀ layers i = count - i
+
+no-terms-requires : tie.Need-no-terms-requires Inv-loop μ-loop
+no-terms-requires c κs = search needs
+
+new-requires : tie.Need-new-requires Inv-loop μ-loop
+new-requires c κs = search needs
+
+loop-holds : tie.Need-loop-holds Inv-loop μ-loop
+loop-holds c =
+    let pre = c .before .before .before .before .pre in
+    law.load-begins _ _ _ _ _ (pre .0) (pre .1) refl
+
+add-layer-at : tie.Need-add-layer-at Inv-loop μ-loop
+add-layer-at c = search needs
 
 layer-at-requires : tie.Need-layer-at-requires Inv-loop μ-loop
 layer-at-requires c κs = search needs
-
-loop-holds : tie.Need-loop-holds Inv-loop μ-loop
-loop-holds c = search law.first-loaded
-
-layer-at-requires-2 : tie.Need-layer-at-requires-2 Inv-loop μ-loop
-layer-at-requires-2 c κs = search needs
 
 mul-layers : tie.Need-mul-layers Inv-loop μ-loop
 mul-layers c = search needs
@@ -46,9 +55,11 @@ records-spec =
     (tie.spec
     Inv-loop
     μ-loop
-    layer-at-requires
+    no-terms-requires
+    new-requires
     loop-holds
-    layer-at-requires-2
+    add-layer-at
+    layer-at-requires
     mul-layers
     array-set-from-layers
     add-i

@@ -7,13 +7,13 @@ use Rattle.standings.proofs.tier.store.Statement.{statement}
 use Rattle.standings.proofs.tier.store.Tie as tie
 
 abbrev Inv-loop : tie.InvT-loop
-Inv-loop spent₀ count layers i₀ spent i = law.Storing count layers spent₀ spent i
+Inv-loop spent₀ from count layers i₀ spent i = law.Storing from count layers spent₀ spent i
 
 abbrev μ-loop : tie.MeasureT-loop
-μ-loop spent₀ count layers i₀ spent i = count - i
+μ-loop spent₀ from count layers i₀ spent i = count - i
 
 loop-holds : tie.Need-loop-holds Inv-loop μ-loop
-loop-holds c = search needs
+loop-holds c = law.store-begins _ _ _ _ (search needs) (c .before .pre .0)
 
 mul-layer : tie.Need-mul-layer Inv-loop μ-loop
 mul-layer c = search needs
@@ -23,6 +23,9 @@ array-copy-out-layer c = search needs
 
 cents-requires : tie.Need-cents-requires Inv-loop μ-loop
 cents-requires c κs = search needs
+
+add-spent : tie.Need-add-spent Inv-loop μ-loop
+add-spent c = search needs
 
 mul-spent : tie.Need-mul-spent Inv-loop μ-loop
 mul-spent c = search needs
@@ -55,6 +58,7 @@ store-spec =
     mul-layer
     array-copy-out-layer
     cents-requires
+    add-spent
     mul-spent
     slice-write-spent
     add-i

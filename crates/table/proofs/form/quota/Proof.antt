@@ -17,13 +17,27 @@ array-read-t13 c = search needs
 array-read-t16 : tie.Need-array-read-t16
 array-read-t16 c = search needs
 
+treaty-line-requires : tie.Need-treaty-line-requires
+treaty-line-requires c κs = search needs
+
 returns : tie.Need-returns
 returns c = search law.found-treaty
 
+treaty-line-requires-2 : tie.Need-treaty-line-requires-2
+treaty-line-requires-2 c κs = search needs
+
 returns-2 : tie.Need-returns-2
-returns-2 c = search needs
+returns-2 c = search law.found-none
 
 pub quota-spec : {M : Type 1} → statement M
 quota-spec =
     tie.close
-    (tie.spec array-read-t7 array-read-t10 array-read-t13 array-read-t16 returns returns-2)
+    (tie.spec
+    array-read-t7
+    array-read-t10
+    array-read-t13
+    array-read-t16
+    treaty-line-requires
+    returns
+    treaty-line-requires-2
+    returns-2)

@@ -1,9 +1,11 @@
 -- `table::form::read` meets its contract.
 -- Assumes nothing.
+use mathlib.Core.Path.{refl}
 use borrow.Author.Needs.{needs}
 use lib.Dec.{lit≤}
 use Rattle.text.specs.Template.{capital, holes}
 use Rattle.table_text.proofs.LineKinds as law
+use Rattle.table.proofs.LayerParts.{risk-line, cat-line}
 use Rattle.table.proofs.form.read.Statement.{statement}
 use Rattle.table.proofs.form.read.Tie as tie
 
@@ -30,25 +32,28 @@ read-line-requires-2 c κs = lit≤ tt
 surplus-requires : tie.Need-surplus-requires
 surplus-requires c κs = search needs
 
-slice-aggregate-read-line-3 : tie.Need-slice-aggregate-read-line-3
-slice-aggregate-read-line-3 c = search needs
+slice-aggregate-layer : tie.Need-slice-aggregate-layer
+slice-aggregate-layer c = search needs
 
-read-line-requires-3 : tie.Need-read-line-requires-3
+layer-requires : tie.Need-layer-requires
 unfolding capital holes
-read-line-requires-3 c κs = lit≤ tt
+layer-requires c κs = refl
 
-risk-requires : tie.Need-risk-requires
-risk-requires c κs = search needs
+layer-line-requires : tie.Need-layer-line-requires
+layer-line-requires c κs = search needs
 
-slice-aggregate-read-line-4 : tie.Need-slice-aggregate-read-line-4
-slice-aggregate-read-line-4 c = search needs
+slice-aggregate-layer-2 : tie.Need-slice-aggregate-layer-2
+slice-aggregate-layer-2 c = search needs
 
-read-line-requires-4 : tie.Need-read-line-requires-4
+layer-requires-2 : tie.Need-layer-requires-2
 unfolding capital holes
-read-line-requires-4 c κs = lit≤ tt
+layer-requires-2 c κs = refl
 
-cat-requires : tie.Need-cat-requires
-cat-requires c κs = search needs
+layer-line-requires-2 : tie.Need-layer-line-requires-2
+layer-line-requires-2 c κs = search needs
+
+treaty-line-requires : tie.Need-treaty-line-requires
+treaty-line-requires c κs = search needs
 
 returns : tie.Need-returns
 returns c = search law.form-quota
@@ -57,10 +62,10 @@ returns-2 : tie.Need-returns-2
 returns-2 c = search law.form-surplus
 
 returns-3 : tie.Need-returns-3
-returns-3 c = search law.form-risk
+returns-3 c = search risk-line
 
 returns-4 : tie.Need-returns-4
-returns-4 c = search law.form-cat
+returns-4 c = search cat-line
 
 returns-5 : tie.Need-returns-5
 returns-5 c = search law.form-none
@@ -76,12 +81,13 @@ read-spec =
     slice-aggregate-read-line-2
     read-line-requires-2
     surplus-requires
-    slice-aggregate-read-line-3
-    read-line-requires-3
-    risk-requires
-    slice-aggregate-read-line-4
-    read-line-requires-4
-    cat-requires
+    slice-aggregate-layer
+    layer-requires
+    layer-line-requires
+    slice-aggregate-layer-2
+    layer-requires-2
+    layer-line-requires-2
+    treaty-line-requires
     returns
     returns-2
     returns-3

@@ -15,14 +15,14 @@ slice-aggregate-put-layers c = search needs
 
 put-layers-requires : tie.Need-put-layers-requires
 unfolding holes capital
-put-layers-requires c κs = search (valid.few-risk, needs)
+put-layers-requires c κs = search (law.risk-valid, needs)
 
 slice-aggregate-put-layers-2 : tie.Need-slice-aggregate-put-layers-2
 slice-aggregate-put-layers-2 c = search needs
 
 put-layers-requires-2 : tie.Need-put-layers-requires-2
 unfolding holes capital
-put-layers-requires-2 c κs = search (valid.few-cat, needs)
+put-layers-requires-2 c κs = search (law.cat-valid, needs)
 
 same-length : tie.Need-same-length
 same-length c = search needs

@@ -11,7 +11,7 @@ use Rattle.table.proofs.print.put_treaties.Tie as tie
 
 abbrev Inv-loop : tie.InvT-loop
 Inv-loop out₀ at treaties count next₀ i₀ out next i =
-    law.Lined treatyLine (treaties .places) count out₀ at out next i
+    law.Lined treatyLine 1200 (treaties .places) count out₀ at out next i
 
 abbrev μ-loop : tie.MeasureT-loop
 μ-loop out₀ at treaties count next₀ i₀ out next i = count - i
@@ -44,7 +44,7 @@ same-length : tie.Need-same-length Inv-loop μ-loop
 same-length c = search passed-length
 
 returns : tie.Need-returns Inv-loop μ-loop
-returns c = (search law.all-lined, search law.lined-short)
+returns c = (search law.all-lined, search (law.lined-short, needs))
 
 pub put-treaties-spec : {M : Type 1} → statement M
 put-treaties-spec =

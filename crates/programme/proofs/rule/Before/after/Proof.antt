@@ -5,14 +5,14 @@ use Rattle.programme.proofs.Faults.{risk-end, cat-end, treaty-after, ri
 use Rattle.programme.proofs.rule.Before.after.Statement.{statement}
 use Rattle.programme.proofs.rule.Before.after.Tie as tie
 
-enum-known-contract : tie.Need-enum-known-contract
-enum-known-contract c = search needs
+enum-known-kind : tie.Need-enum-known-kind
+enum-known-kind c = search needs
 
 next-requires : tie.Need-next-requires
 next-requires c κs = search needs
 
-enum-known-contract-2 : tie.Need-enum-known-contract-2
-enum-known-contract-2 c = search needs
+enum-told : tie.Need-enum-told
+enum-told c = search needs
 
 add-next : tie.Need-add-next
 add-next c = search risk-end
@@ -20,8 +20,8 @@ add-next c = search risk-end
 next-requires-2 : tie.Need-next-requires-2
 next-requires-2 c κs = search needs
 
-enum-known-contract-3 : tie.Need-enum-known-contract-3
-enum-known-contract-3 c = search needs
+enum-told-2 : tie.Need-enum-told-2
+enum-told-2 c = search needs
 
 add-next-2 : tie.Need-add-next-2
 add-next-2 c = search cat-end
@@ -42,12 +42,12 @@ pub after-spec : {M : Type 1} → statement M
 after-spec =
     tie.close
     (tie.spec
-    enum-known-contract
+    enum-known-kind
     next-requires
-    enum-known-contract-2
+    enum-told
     add-next
     next-requires-2
-    enum-known-contract-3
+    enum-told-2
     add-next-2
     next-requires-3
     returns

@@ -5,8 +5,8 @@ use borrow.Author.Needs.{needs}
 use Rattle.programme.proofs.rule.Before.fault.Statement.{statement}
 use Rattle.programme.proofs.rule.Before.fault.Tie as tie
 
-enum-known-contract : tie.Need-enum-known-contract
-enum-known-contract c = search needs
+enum-known-kind : tie.Need-enum-known-kind
+enum-known-kind c = search needs
 
 add-treaty-fault : tie.Need-add-treaty-fault
 add-treaty-fault c = search needs
@@ -14,14 +14,14 @@ add-treaty-fault c = search needs
 treaty-fault-requires : tie.Need-treaty-fault-requires
 treaty-fault-requires c κs = search needs
 
-enum-known-contract-2 : tie.Need-enum-known-contract-2
-enum-known-contract-2 c = search needs
+enum-told : tie.Need-enum-told
+enum-told c = search needs
 
 layer-fault-requires : tie.Need-layer-fault-requires
 layer-fault-requires c κs = search needs
 
-enum-known-contract-3 : tie.Need-enum-known-contract-3
-enum-known-contract-3 c = search needs
+enum-told-2 : tie.Need-enum-told-2
+enum-told-2 c = search needs
 
 layer-fault-requires-2 : tie.Need-layer-fault-requires-2
 layer-fault-requires-2 c κs = search needs
@@ -39,12 +39,12 @@ pub fault-spec : {M : Type 1} → statement M
 fault-spec =
     tie.close
     (tie.spec
-    enum-known-contract
+    enum-known-kind
     add-treaty-fault
     treaty-fault-requires
-    enum-known-contract-2
+    enum-told
     layer-fault-requires
-    enum-known-contract-3
+    enum-told-2
     layer-fault-requires-2
     returns
     returns-2
