@@ -48,27 +48,39 @@ def listed(program, kind):
     return subprocess.run([program, kind], check=True, capture_output=True, text=True).stdout.splitlines()
 
 
+def print_table(head, cases, line):
+    """A line for each case, under the names of its columns; all columns but the first are numbers."""
+    print("| " + " | ".join(head) + " |")
+    print("|---|" + "---:|" * (len(head) - 1))
+    for case in cases:
+        print("| " + " | ".join([case, *(str(value) for value in line(case))]) + " |", flush=True)
+
+
+def ratios(ours, theirs):
+    """Of all instructions of two runs, and of those outside memset: each run is all of them and those in it."""
+    return f"{ours[0] / theirs[0]:.2f}", f"{(ours[0] - ours[1]) / (theirs[0] - theirs[1]):.2f}"
+
+
 def print_sides(program, folder):
-    """A line for each case."""
-    print("| case | engine, instructions | of them memset | yardstick | ratio | ratio without memset |")
-    print("|---|---:|---:|---:|---:|---:|")
-    for case in listed(program, "names"):
-        ours, memset = count(program, folder, case, "engine")
+    """The engine against the yardstick, of which no memset is told apart."""
+    def line(case):
+        ours = count(program, folder, case, "engine")
         theirs, _ = count(program, folder, case, "yardstick")
-        ratios = f"{ours / theirs:.2f} | {(ours - memset) / theirs:.2f}"
-        print(f"| {case} | {ours} | {memset} | {theirs} | {ratios} |", flush=True)
+        return *ours, theirs, *ratios(ours, (theirs, 0))
+
+    head = ["case", "engine, instructions", "of them memset", "yardstick", "ratio", "ratio without memset"]
+    print_table(head, listed(program, "names"), line)
 
 
 def print_exact(program, folder):
-    """A line for each case that is lent two buffers."""
+    """The engine lent two buffers."""
+    def line(case):
+        exact, wide = (count(program, folder, case, side) for side in ("exact", "engine"))
+        return exact[0], wide[0], *ratios(exact, wide)
+
     print("the engine, lent exactly the statement's bytes and lent many more:")
-    print("| case | exact, instructions | wide | ratio | ratio without memset |")
-    print("|---|---:|---:|---:|---:|")
-    for case in listed(program, "exact"):
-        exact, of_exact = count(program, folder, case, "exact")
-        wide, of_wide = count(program, folder, case, "engine")
-        ratios = f"{exact / wide:.2f} | {(exact - of_exact) / (wide - of_wide):.2f}"
-        print(f"| {case} | {exact} | {wide} | {ratios} |", flush=True)
+    head = ["case", "exact, instructions", "wide", "ratio", "ratio without memset"]
+    print_table(head, listed(program, "exact"), line)
 
 
 def main():

@@ -64,7 +64,7 @@ pub places-full : (qs : List ℕ) → length qs ≡ 20 → ratePlaces qs ≡ qs
 places-full qs e = take-at qs (replicate 20 0) 20 e
 
 -- terms with other rates
-abbrev withRates : Terms → List ℕ → Terms
+abbrev pub withRates : Terms → List ℕ → Terms
 withRates t qs = record {
   attachment = t .attachment;
   limit = t .limit;

@@ -1,4 +1,5 @@
-// A tier's terms as numbers in a lent slice, one layer's after another's. No other file knows where a number stands.
+// A tier's terms as numbers in a lent slice, one layer's after another's, each with its rates last. Where another term
+// stands no other file knows.
 ghost use mathlib.Core.List.{[]};
 ghost use mathlib.Core.Path.{_≡_};
 ghost use Prim.Native.Nat.{_<_};

@@ -29,7 +29,7 @@ use Rattle.table_text.proofs.LineKinds.{form-risk, form-cat}
 use Rattle.table_text.proofs.LayerLines.{rates-holes, terms-of, begin-missing, begin-found}
 use Rattle.table.specs.declared.form.RatesRead.{RatesRead}
 use Rattle.table.specs.declared.form.LayerRead.{LayerRead}
-use Rattle.table.specs.LayerLine.{ratesOf, ratesAt, noLayer, layerRead}
+use Rattle.table.specs.LayerLine.{ratesReadOf, ratesAt, noLayer, layerRead}
 
 -- a line read, by whether its layer was found
 module _ (read : LayerRead) (x : Kind) (r : LineRead) where
@@ -69,7 +69,7 @@ record RatesFound (s : List ℕ) (at k next : ℕ) (values : List ℕ) : Type 0 
   kept : values ≡ ratePlaces numbers
   within : next ≤ length s
 
-rates-end : (n : ℕ) (o : Option (List ℕ × List ℕ)) → ratesOf n o .place ≡ endOf n o
+rates-end : (n : ℕ) (o : Option (List ℕ × List ℕ)) → ratesReadOf n o .place ≡ endOf n o
 rates-end n none = refl
 rates-end n (some p) = refl
 
@@ -86,7 +86,7 @@ module _ (s : List ℕ) (at k : ℕ) (r : RatesRead) (q : r ≡ ratesAt s at k) 
       record {
         numbers = f .numbers;
         read = f .read;
-        kept = ap (λ (x : RatesRead). x .values) (q ∙ ap (ratesOf (length s)) (f .read));
+        kept = ap (λ (x : RatesRead). x .values) (q ∙ ap (ratesReadOf (length s)) (f .read));
         within = f .within;
       }
 

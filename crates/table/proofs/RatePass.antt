@@ -24,7 +24,7 @@ use Rattle.text.proofs.Passes.{Passing, passed-short, one-passed, all-passed}
 use Rattle.layer.specs.Layer.{ratePlaces}
 use Rattle.table_text.specs.Forms.{rateText, ratesText}
 use Rattle.table.specs.declared.form.RatesRead.{RatesRead}
-use Rattle.table.specs.LayerLine.{noRates, ratesOf, ratesAt}
+use Rattle.table.specs.LayerLine.{noRates, ratesReadOf, ratesAt}
 
 -- rates in twenty places, with one more: in the place after them, or nowhere
 place-more : (qs : List ℕ) (q : ℕ) → length qs < 20 → set (ratePlaces qs) (length qs) q ≡ ratePlaces (qs ++ (q ∷ []))
@@ -66,7 +66,7 @@ none-rated s at count h = record {
 module _ (s : List ℕ) (at count : ℕ) (r : RatesRead) where
   rates-missing : r ≡ noRates → matched [] (ratesText count) (drop at s) ≡ none → r ≡ ratesAt s at count
   unfolding ratesAt
-  rates-missing a e = a ∙ sym (ap (ratesOf (length s)) e)
+  rates-missing a e = a ∙ sym (ap (ratesReadOf (length s)) e)
 
 module _ (s : List ℕ) (at count : ℕ) (values : List ℕ) (next i : ℕ) (g : Rating s at count values next i) where
   -- no rate is left
@@ -77,7 +77,7 @@ module _ (s : List ℕ) (at count : ℕ) (values : List ℕ) (next i : ℕ) (g :
       let none-left : count - i ≡ 0 = omega arith in
       let all : matched [] (ratesText count) (drop at s) ≡ some (g .numbers, drop next s) = g .rest ∙ rw none-left in
       let place : next ≡ length s - length (drop next s) = omega (arith, length-drop next s, g .within) in
-      a ∙ (λ j. record { place = At (place j); values = g .kept j }) ∙ sym (ap (ratesOf (length s)) all)
+      a ∙ (λ j. record { place = At (place j); values = g .kept j }) ∙ sym (ap (ratesReadOf (length s)) all)
 
   -- one rate more
   module _ (more : i < count) where

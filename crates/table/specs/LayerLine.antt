@@ -18,13 +18,13 @@ abbrev pub noRates : RatesRead
 noRates = record { place = Nowhere; values = ratePlaces [] }
 
 -- the rates read of a text of n bytes, with the place where what is left begins
-abbrev pub ratesOf : ℕ → Option (List ℕ × List ℕ) → RatesRead
-ratesOf n none = noRates
-ratesOf n (some p) = record { place = At (n - length (p .1)); values = ratePlaces (p .0) }
+abbrev pub ratesReadOf : ℕ → Option (List ℕ × List ℕ) → RatesRead
+ratesReadOf n none = noRates
+ratesReadOf n (some p) = record { place = At (n - length (p .1)); values = ratePlaces (p .0) }
 
 -- k rates at a place of a text
 unfoldable pub ratesAt : List ℕ → ℕ → ℕ → RatesRead
-ratesAt s at k = ratesOf (length s) (matched [] (ratesText k) (drop at s))
+ratesAt s at k = ratesReadOf (length s) (matched [] (ratesText k) (drop at s))
 
 -- no layer
 abbrev pub noLayer : LayerRead

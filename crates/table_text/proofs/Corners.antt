@@ -10,16 +10,20 @@ use Rattle.text.specs.Number.{printedBy, printed, digitOf, readOn, number}
 use Rattle.text.specs.Template.{capital, filled, matched, wholeOf, lineNumbers}
 use Rattle.text.specs.Lines.{linesOf, joined}
 use Rattle.treaty.specs.declared.Treaty.{Treaty}
+use Rattle.treaty.specs.Treaty.{quotaOf}
 use Rattle.layer.specs.declared.terms.Terms.{Terms}
 use Rattle.layer.specs.Layer.{termsOf}
 use Rattle.answer.specs.Outcome.{refused, written, textOnly, fitted, answerOf, bufferAfter}
 use Rattle.programme.specs.declared.contract.Programme.{Programme}
-use Rattle.programme.specs.Contracts.{Contracts, noContracts, noTreaty, noTerms, programmeOf}
+use Rattle.programme.specs.declared.contract.Kind.the-variants as kind
+use Rattle.programme.specs.Contracts.{Proportional, Risk, Cat, Contracts, noContracts, noTreaty, noTerms, programmeOf}
 use Rattle.programme.specs.Ranges.{outside, treatyOutside, ratesOutside, termsOutside, treatyNotZero, termsNotZero}
 use Rattle.programme.specs.Rules.{treatyFault, layerFault}
 use Rattle.programme.specs.Valid.{validTreaties, validLayers, valid}
 use Rattle.programme.proofs.Corners.{zeroTerms, nothingHeld, allContracts, allHeld, eightTerms, withRisk}
 use Rattle.table_text.specs.declared.Reading.{Reading}
+use Rattle.table_text.specs.declared.Form.the-variants as form
+use Rattle.table_text.specs.Forms.{Line, NoForm, formRead}
 use Rattle.table_text.specs.Forms.{ratesText, layerNumbers, kindOf, formOfKind, formOf, treatyLine}
 use Rattle.table_text.specs.Read.{refusedAt, readAs, readFrom, readOf}
 use Rattle.table_text.specs.Write.{writeOf}
@@ -137,6 +141,14 @@ oneCat k p qs =
     } ∷ replicate 7 zeroTerms)
 
 pub record Corners : Type 0 where
+  -- what a line that was read is: its kind, with a layer's terms from beside it
+  pub lines-read : map formRead
+      (record { form = form.Line (kind.Proportional (quotaOf 2 4000 7 9)); terms = noTerms }
+      ∷ record { form = form.Line kind.Risk; terms = termsOf 7 1 2 1 3 (4 ∷ []) 5 }
+      ∷ record { form = form.Line kind.Cat; terms = termsOf 7 1 2 1 3 (4 ∷ []) 5 }
+      ∷ record { form = form.NoForm; terms = termsOf 7 1 2 1 3 (4 ∷ []) 5 } ∷ [])
+      ≡ Line (Proportional (quotaOf 2 4000 7 9)) ∷ Line (Risk (termsOf 7 1 2 1 3 (4 ∷ []) 5))
+      ∷ Line (Cat (termsOf 7 1 2 1 3 (4 ∷ []) 5)) ∷ NoForm ∷ []
   -- What reading answers, typed out to the places: a programme with its contracts in the first of eight ..
   pub answer-read : readOf allBytes ≡ record { refusal = 0; line = 0; programme = allHeld }
   pub answer-empty : readOf [] ≡ record { refusal = 0; line = 0; programme = nothingHeld }
@@ -295,6 +307,7 @@ unfolding printedBy printed digitOf readOn number capital filled matched wholeOf
     treatyOutside ratesOutside termsOutside treatyNotZero termsNotZero ratesText layerNumbers kindOf formOfKind formOf
     treatyLine treatyFault layerFault readFrom readOf validTreaties validLayers valid fitted writeOf
 corners = record {
+  lines-read = refl;
   answer-read = refl;
   answer-empty = refl;
   answer-form = refl;

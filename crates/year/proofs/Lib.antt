@@ -1,6 +1,7 @@
 pub mod Treaties
 pub mod Layers
 pub mod Balance
+pub mod RatesApart
 pub mod Parts
 pub mod StatementsTell
 pub mod Size
