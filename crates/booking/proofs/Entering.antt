@@ -19,21 +19,23 @@ use Rattle.treaty.specs.Losses.{leftOfEach}
 use Rattle.layer.specs.declared.record.Sums.{Sums}
 use Rattle.layer.specs.Layer.{sumsOf}
 use Rattle.layer.specs.Numbers.{tierFrom}
-use Rattle.layer.specs.Tier.{recoveriesBy, layersAfter, layersThrough, recoveriesThrough, chargesThrough}
+use Rattle.layer.specs.Tier.{recoveriesBy, layersOn, layersThrough, recoveriesThrough, duesThrough}
 use Rattle.layer.proofs.Tiers.{recoveries-le-subject}
+use Rattle.scale.specs.Scale.{shareOn}
+use Rattle.scale.proofs.Table.{fair-on}
 use Rattle.programme.specs.Contracts.{Contracts}
 use Rattle.events.specs.Event.{Event}
 use Rattle.year.specs.declared.Amounts.{Amounts}
 use Rattle.year.specs.Event.{Year, leftByTreaties, subjectOf, eventAfter, eventAmounts}
 use Rattle.year.specs.Statement.{amountsNumbers}
-use Rattle.year.proofs.Layers.{passes-carries, carries-length}
 use Rattle.standings.specs.Tier.{layersFrom, placesOf, CanBear}
+use Rattle.standings.proofs.Loads.{held-length}
 use Rattle.standings.proofs.LentTiers.{bears-sound, bears-rising, loaded-after, still-bears}
 use Rattle.losses.specs.declared.event.ByTreaties.{ByTreaties}
 use Rattle.losses.specs.Cede.{lossesFrom, AfterTreaties}
 use Rattle.losses.proofs.RegisteredTreaties.{cedes}
 use Rattle.losses.proofs.Added.{added-length, added-le}
-use Rattle.booking.specs.Book.{contractsFrom, yearHeld, Lent, CanEnterEvent, eventWith, EventEntered}
+use Rattle.booking.specs.Book.{contractsFrom, yearHeld, Lent, CanEnterEvent, EventEntered}
 use Rattle.booking.proofs.EventBounds.{RisingLayers, Bookable, subject-is, amounts-le}
 
 -- something is left of each loss
@@ -64,19 +66,19 @@ module _ (ts : List Treaty) (xs : List Loss) {l : List ℕ} {k : ℕ} (many : k 
 -- layers that a year may have
 tier-held : {ns ms : List ℕ} → CanBear ns ms → RisingLayers (layersFrom ns ms)
 tier-held {ns} {ms} b = record {
-  few =
-      let many = carries-length (tierFrom ns) (layersFrom ns ms) (passes-carries (tierFrom ns) ms (b .spent)) in
-      omega (arith, many, b .few);
+  few = omega (arith, held-length (tierFrom ns) ms, b .few);
   each = bears-sound b;
   rising = bears-rising b;
 }
 
--- what the layers of terms ns and spent amounts ms recover and charge of the amounts xs
-abbrev sumsFrom : (ns ms xs : List ℕ) → Sums
-sumsFrom ns ms xs = sumsOf (recoveriesThrough xs (layersFrom ns ms)) (chargesThrough xs (layersFrom ns ms))
+-- what the layers of terms ns and numbers ms recover of the amounts xs, and what premium is due, on a day of some share
+abbrev sumsFrom : (share : ℕ) (ns ms xs : List ℕ) → Sums
+sumsFrom share ns ms xs =
+    sumsOf share (recoveriesThrough xs (layersFrom ns ms)) (duesThrough share xs (layersFrom ns ms))
 
 -- An event that may be entered.
-module _ {register risk cat ls ms ns cs : List ℕ} (h : CanEnterEvent register risk cat ls ms ns cs) where
+module _ {shares register risk cat ls ms ns cs : List ℕ} (h : CanEnterEvent shares register risk cat ls ms ns cs)
+    (day : ℕ) where
   abbrev c : Contracts
   c = contractsFrom register risk cat
 
@@ -87,7 +89,14 @@ module _ {register risk cat ls ms ns cs : List ℕ} (h : CanEnterEvent register 
   xs = lossesFrom ls
 
   abbrev e : Event
-  e = eventWith xs
+  e = record { day = day; losses = xs }
+
+  fair : shareOn shares day ≤ 10000
+  fair = fair-on shares (h .lent .fair) day
+
+  -- the share that was found
+  pub found-fair : {share : ℕ} → share ≡ shareOn shares day → share ≤ 10000
+  found-fair on = rw on fair
 
   bookable : Bookable (c .treaties) y e
   bookable = record {
@@ -100,7 +109,8 @@ module _ {register risk cat ls ms ns cs : List ℕ} (h : CanEnterEvent register 
 
   -- Its losses went through their treaties.
   module _ {t : ByTreaties} {cs′ l : List ℕ} (a : AfterTreaties (c .treaties) xs cs cs′ t)
-      (stored : l ≡ sets (replicate 64 0) 0 (leftByTreaties (c .treaties) e)) {k : ℕ} (many : k ≡ length xs) where
+      (stored : l ≡ sets (replicate 64 0) 0 (leftByTreaties (c .treaties) e)) {k : ℕ} (many : k ≡ length xs)
+      {share : ℕ} (on : share ≡ shareOn shares day) where
     -- the amounts left
     abbrev lefts : List ℕ
     lefts = take k l
@@ -116,7 +126,7 @@ module _ {register risk cat ls ms ns cs : List ℕ} (h : CanEnterEvent register 
     ceded-le = omega (arith, gross-parts)
 
     -- They went through the risk layers, which recover m of them.
-    module _ {s : Sums} (by-risk : s ≡ sumsFrom risk ms lefts) {m : ℕ} (is-m : m ≡ s .recovered .0) where
+    module _ {s : Sums} (by-risk : s ≡ sumsFrom share risk ms lefts) {m : ℕ} (is-m : m ≡ s .recovered .0) where
       recovered-risk : m ≡ recoveriesThrough lefts (layersFrom risk ms)
       recovered-risk = rw (is-m, by-risk)
 
@@ -131,7 +141,7 @@ module _ {register risk cat ls ms ns cs : List ℕ} (h : CanEnterEvent register 
       subject-left = omega (arith, gross-parts, recovered-risk)
 
       -- It went through them, and they recover n of it.
-      module _ {s′ : Sums} (by-cat : s′ ≡ sumsFrom cat ns (subject ∷ [])) {n : ℕ} (is-n : n ≡ s′ .recovered .0)
+      module _ {s′ : Sums} (by-cat : s′ ≡ sumsFrom share cat ns (subject ∷ [])) {n : ℕ} (is-n : n ≡ s′ .recovered .0)
         where
           recovered-cat : n ≡ recoveriesBy (subjectOf (c .treaties) y e) (y .cat)
           recovered-cat = rw (is-n, by-cat, ← subject-left) (add-zero _)
@@ -144,16 +154,16 @@ module _ {register risk cat ls ms ns cs : List ℕ} (h : CanEnterEvent register 
 
           -- The premiums are u and v.
           module _ {u v : ℕ} (is-u : u ≡ s .premium .0) (is-v : v ≡ s′ .premium .0) where
-            premiums : u + v ≡ eventAmounts (c .treaties) y e .premium
-            premiums = rw (is-u, is-v, by-risk, by-cat, lefts-left, ← subject-left, add-zero)
+            premiums : u + v ≡ eventAmounts shares (c .treaties) y e .premium
+            premiums = rw (is-u, is-v, by-risk, by-cat, lefts-left, ← subject-left, add-zero, on)
 
             pub premium-fits : Fits w64 (u + v)
-            premium-fits = omega (arith, premiums, amounts-le (c .treaties) y e bookable)
+            premium-fits = omega (arith, premiums, amounts-le (c .treaties) y e bookable shares (h .lent .fair))
 
-            -- the spent amounts are stored
-            pub as-entered : {ms′ ns′ : List ℕ} → ms′ ≡ placesOf (layersThrough lefts (layersFrom risk ms))
-                → ns′ ≡ placesOf (layersThrough (subject ∷ []) (layersFrom cat ns))
-                → EventEntered c y xs ms′ ns′ cs cs′ (record {
+            -- the numbers of the tiers are stored
+            pub as-entered : {ms′ ns′ : List ℕ} → ms′ ≡ placesOf (layersThrough share lefts (layersFrom risk ms))
+                → ns′ ≡ placesOf (layersThrough share (subject ∷ []) (layersFrom cat ns))
+                → EventEntered shares c y e ms′ ns′ cs cs′ (record {
                   gross = t .gross;
                   ceded = t .ceded;
                   risk = m;
@@ -170,33 +180,38 @@ module _ {register risk cat ls ms ns cs : List ℕ} (h : CanEnterEvent register 
                 net = subject-left j - recovered-cat j;
                 premium = premiums j;
               };
-              risk = risk-stored ∙ ap (λ (l : List ℕ). placesOf (layersThrough l (y .risk))) lefts-left;
-              cat = cat-stored ∙ ap (λ (x : ℕ). placesOf (layersAfter x (y .cat))) subject-left;
+              risk = risk-stored ∙ (λ j. placesOf (layersThrough (on j) (lefts-left j) (y .risk)));
+              cat = cat-stored ∙ (λ j. placesOf (layersOn (on j) (subject-left j) (y .cat)));
               cessions = a .cessions;
             }
 
   -- It was entered, and came to r.
-  module _ {ms′ ns′ cs′ : List ℕ} {r : Amounts} (entered : EventEntered c y xs ms′ ns′ cs cs′ r) where
-    -- the spent amounts after it are those of the year after it
-    pub entered-year : yearHeld c ms′ ns′ ≡ eventAfter (c .treaties) y e
+  module _ {ms′ ns′ cs′ : List ℕ} {r : Amounts} (entered : EventEntered shares c y e ms′ ns′ cs cs′ r) where
+    -- the numbers of the tiers after it are those of the year after it
+    pub entered-year : yearHeld c ms′ ns′ ≡ eventAfter shares (c .treaties) y e
     entered-year =
         let by-risk =
-        ap (layersFrom risk) (entered .risk) ∙ loaded-after (h .lent .risk) (leftByTreaties (c .treaties) e) in
+        ap (layersFrom risk) (entered .risk)
+        ∙ loaded-after (h .lent .risk) (shareOn shares day) fair (leftByTreaties (c .treaties) e) in
         let by-cat =
-        ap (layersFrom cat) (entered .cat) ∙ loaded-after (h .lent .cat) (subjectOf (c .treaties) y e ∷ []) in
+        ap (layersFrom cat) (entered .cat)
+        ∙ loaded-after (h .lent .cat) (shareOn shares day) fair (subjectOf (c .treaties) y e ∷ []) in
         λ j. record { risk = by-risk j; cat = by-cat j }
 
     -- and the contracts may have them
-    pub entered-lent : Lent register risk cat ms′ ns′
+    pub entered-lent : Lent shares register risk cat ms′ ns′
     entered-lent = record {
+      fair = h .lent .fair;
       register = h .lent .register;
-      risk = rw (entered .risk) (still-bears (h .lent .risk) (leftByTreaties (c .treaties) e));
-      cat = rw (entered .cat) (still-bears (h .lent .cat) (subjectOf (c .treaties) y e ∷ []));
+      risk =
+          rw (entered .risk) (still-bears (h .lent .risk) (shareOn shares day) fair (leftByTreaties (c .treaties) e));
+      cat =
+          rw (entered .cat) (still-bears (h .lent .cat) (shareOn shares day) fair (subjectOf (c .treaties) y e ∷ []));
     }
 
     -- each of its amounts is at most 64 × 10^13
     pub entered-amounts-le : Each (λ (n : ℕ). n ≤ 64 * 10 ^ 13) (amountsNumbers r)
-    entered-amounts-le = rw (entered .amounts) (amounts-le (c .treaties) y e bookable)
+    entered-amounts-le = rw (entered .amounts) (amounts-le (c .treaties) y e bookable shares (h .lent .fair))
 
     -- each number T still has its place
     pub entered-nine : length cs′ ≡ 9

@@ -15,9 +15,11 @@ use Rattle.treaty.specs.Ranges.{LossInRange}
 use Rattle.treaty.specs.Losses.{grossOf, cededOfEach}
 use Rattle.treaty.proofs.Losses.{all-ceded-and-left}
 use Rattle.layer.specs.declared.record.Layer.{Layer}
-use Rattle.layer.specs.Tier.{recoveriesThrough, chargesThrough, leftThrough, recoveriesBy}
+use Rattle.layer.specs.Tier.{recoveriesThrough, duesThrough, leftThrough, recoveriesBy}
 use Rattle.layer.specs.Ranges.{Sound, Rising}
-use Rattle.layer.proofs.Tiers.{recovered-and-left-through, charges-through-le, recoveries-le-subject}
+use Rattle.layer.proofs.Tiers.{recovered-and-left-through, dues-through-le, recoveries-le-subject}
+use Rattle.scale.specs.Scale.{shareOn, Fair}
+use Rattle.scale.proofs.Table.{fair-on}
 use Rattle.events.specs.Event.{Event}
 use Rattle.year.specs.Event.{Year, leftByTreaties, subjectOf, eventAmounts}
 use Rattle.year.specs.Statement.{amountsNumbers}
@@ -28,9 +30,10 @@ pub record RisingLayers (ls : List Layer) : Type 0 where
   pub each : Each Sound ls
   pub rising : Rising 0 ls
 
--- what they charge
-charges-small : (ys : List ℕ) (ls : List Layer) → RisingLayers ls → chargesThrough ys ls ≤ 32 * 10 ^ 13
-charges-small ys ls s = omega (arith, charges-through-le ys ls (s .each), s .few)
+-- what premium is due
+dues-small : (share : ℕ) → share ≤ 10000 → (ys : List ℕ) (ls : List Layer) → RisingLayers ls
+    → duesThrough share ys ls ≤ 32 * 10 ^ 13
+dues-small share h ys ls s = omega (arith, dues-through-le share h ys ls (s .each), s .few)
 
 -- what the losses of an event come to
 gross-small : (xs : List Loss) → Each LossInRange xs → length xs ≤ 64 → grossOf xs ≤ 64 * 10 ^ 13
@@ -64,18 +67,21 @@ module _ (ts : List Treaty) (y : Year) (e : Event) (b : Bookable ts y e) where
   unfolding subjectOf
   subject-is = omega (arith, ceded-and-left, risk-and-left)
 
-  charges-le : eventAmounts ts y e .premium ≤ 64 * 10 ^ 13
-  charges-le =
-      omega (
-        arith,
-        charges-small (leftByTreaties ts e) (y .risk) (b .risk),
-        charges-small (subjectOf ts y e ∷ []) (y .cat) (b .cat),
-      )
+  module _ (shares : List ℕ) (fair : Fair shares) where
+    dues-le : eventAmounts shares ts y e .premium ≤ 64 * 10 ^ 13
+    dues-le =
+        let h = fair-on shares fair (e .day) in
+        let share = shareOn shares (e .day) in
+        omega (
+          arith,
+          dues-small share h (leftByTreaties ts e) (y .risk) (b .risk),
+          dues-small share h (subjectOf ts y e ∷ []) (y .cat) (b .cat),
+        )
 
-  -- each of its amounts
-  pub amounts-le : Each (λ (n : ℕ). n ≤ 64 * 10 ^ 13) (amountsNumbers (eventAmounts ts y e))
-  amounts-le =
-      let within = gross-small (e .losses) (b .losses) (b .few) in
-      let parts = subject-is in
-      let net = cat-le in
-      (within, (omega arith, (omega arith, (omega arith, (omega arith, (charges-le, tt))))))
+    -- each of its amounts
+    pub amounts-le : Each (λ (n : ℕ). n ≤ 64 * 10 ^ 13) (amountsNumbers (eventAmounts shares ts y e))
+    amounts-le =
+        let within = gross-small (e .losses) (b .losses) (b .few) in
+        let parts = subject-is in
+        let net = cat-le in
+        (within, (omega arith, (omega arith, (omega arith, (omega arith, (dues-le, tt))))))

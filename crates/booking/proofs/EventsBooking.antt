@@ -26,7 +26,7 @@ use Rattle.layer.specs.Ranges.{Sound}
 use Rattle.programme.specs.Contracts.{Contracts}
 use Rattle.events.specs.Event.{Event}
 use Rattle.year.specs.declared.Amounts.{Amounts}
-use Rattle.year.specs.Event.{Year, subjectOf, eventAfter, eventAmounts, yearAfter}
+use Rattle.year.specs.Event.{Year, eventAfter, eventAmounts, yearAfter}
 use Rattle.year.specs.Statement.{EventLine, eventLines, added, totals, amountsNumbers, eventNumbers, eventShown}
 use Rattle.year.specs.Statement.{eventTemplate, lineText}
 use Rattle.year.proofs.Parts.{year-append, event-lines-append}
@@ -36,7 +36,7 @@ use Rattle.losses.specs.Cede.{lossesFrom, cededAdded}
 use Rattle.losses.specs.Event.{lossNumbers, eventsNumbers}
 use Rattle.losses.proofs.EventNumbers.{losses-back, numbers-length, events-append, events-same}
 use Rattle.booking.specs.declared.book.Booked.{Booked}
-use Rattle.booking.specs.Book.{contractsFrom, yearHeld, Lent, CanEnterEvent, eventWith, EventEntered}
+use Rattle.booking.specs.Book.{contractsFrom, yearHeld, Lent, CanEnterEvent, EventEntered}
 use Rattle.booking.specs.Book.{RoomForMore, CanBookEvents, lineRoom, linesRoom, cededThrough, EventsBooked}
 use Rattle.booking.proofs.Totals.{totals-next, amounts-added-le}
 use Rattle.booking.proofs.Idle.{idleOn, year-same, amounts-none, total-same}
@@ -64,29 +64,29 @@ ceded-next ts cs [] x = refl
 ceded-next ts cs (e ∷ es) x = ceded-next ts (cededAdded ts [] cs (e .losses)) es x
 
 -- One event more. It came to the amounts a in the year after the others.
-module _ {c : Contracts} {y : Year} {first : ℕ} {es : List Event} {d₀ d ms ns cs : List ℕ} {r : Booked}
-    (b : EventsBooked c y first es d₀ d ms ns cs r) (e : Event) where
+module _ {shares : List ℕ} {c : Contracts} {y : Year} {first : ℕ} {es : List Event} {d₀ d ms ns cs : List ℕ}
+    {r : Booked} (b : EventsBooked shares c y first es d₀ d ms ns cs r) (e : Event) where
   abbrev ts : List Treaty
   ts = c .treaties
 
   abbrev now : Year
-  now = yearAfter ts y es
+  now = yearAfter shares ts y es
 
-  one-booked : {d′ ms′ ns′ cs′ : List ℕ} {a total : Amounts} {next : ℕ} → a ≡ eventAmounts ts now e
-      → ms′ ≡ placesOf (eventAfter ts now e .risk) → ns′ ≡ placesOf (eventAfter ts now e .cat)
+  one-booked : {d′ ms′ ns′ cs′ : List ℕ} {a total : Amounts} {next : ℕ} → a ≡ eventAmounts shares ts now e
+      → ms′ ≡ placesOf (eventAfter shares ts now e .risk) → ns′ ≡ placesOf (eventAfter shares ts now e .cat)
       → cs′ ≡ cededAdded ts [] cs (e .losses) → total ≡ added (r .total ∷ a ∷ [])
       → Put d (r .next) (filled eventTemplate (eventNumbers (record { day = e .day; amounts = a })) (10 ∷ [])) d′ next
       → next ≤ r .next + lineRoom (e .losses)
-      → EventsBooked c y first (es ++ (e ∷ [])) d₀ d′ ms′ ns′ cs′ (record {
+      → EventsBooked shares c y first (es ++ (e ∷ [])) d₀ d′ ms′ ns′ cs′ (record {
         total = total;
         day = e .day;
         next = next;
       })
   one-booked {d′} {next = next} is risk cat ceded is-total put room =
-      let year = year-append ts y es (e ∷ []) in
-      let line : EventLine = record { day = e .day; amounts = eventAmounts ts now e } in
-      let lines : eventLines ts y (es ++ (e ∷ [])) ≡ eventLines ts y es ++ (line ∷ []) =
-      event-lines-append ts y es (e ∷ []) in
+      let year = year-append shares ts y es (e ∷ []) in
+      let line : EventLine = record { day = e .day; amounts = eventAmounts shares ts now e } in
+      let lines : eventLines shares ts y (es ++ (e ∷ [])) ≡ eventLines shares ts y es ++ (line ∷ []) =
+      event-lines-append shares ts y es (e ∷ []) in
       record {
         risk = risk ∙ ap (λ (z : Year). placesOf (z .risk)) (sym year);
         cat = cat ∙ ap (λ (z : Year). placesOf (z .cat)) (sym year);
@@ -94,9 +94,9 @@ module _ {c : Contracts} {y : Year} {first : ℕ} {es : List Event} {d₀ d ms n
         total =
             is-total
             ∙ (λ i. added (b .total i ∷ is i ∷ []))
-            ∙ sym (ap totals lines ∙ totals-next (eventLines ts y es) line);
+            ∙ sym (ap totals lines ∙ totals-next (eventLines shares ts y es) line);
         lines =
-            rw (lines, text-next (eventLines ts y es) line)
+            rw (lines, text-next (eventLines shares ts y es) line)
             (put-append (b .lines)
             (subst (λ (x : Amounts). Put d (r .next)
             (filled eventTemplate (eventNumbers (record { day = e .day; amounts = x })) (10 ∷ [])) d′ next) is put));
@@ -120,9 +120,9 @@ room-le (e ∷ es) =
     one (x ∷ xs) = omega arith
 
 -- The events `done` are booked, those of `ahead` have the numbers from the place `at` on.
-pub record Booking (register risk cat events : List ℕ) (first : ℕ) (ms₀ ns₀ d₀ ms ns cs d : List ℕ)
+pub record Booking (shares register risk cat events : List ℕ) (first : ℕ) (ms₀ ns₀ d₀ ms ns cs d : List ℕ)
     (total : Amounts) (last next at : ℕ) : Type 0 where
-  pub lent : Lent register risk cat ms ns
+  pub lent : Lent shares register risk cat ms ns
   pub done : List Event
   pub ahead : List Event
   pub whole : events ≡ eventsNumbers (done ++ ahead)
@@ -135,17 +135,17 @@ pub record Booking (register risk cat events : List ℕ) (first : ℕ) (ms₀ ns
   pub eight-risk : length ms ≡ length ms₀
   pub eight-cat : length ns ≡ length ns₀
   pub year : yearHeld (contractsFrom register risk cat) ms ns
-      ≡ yearAfter (contractsFrom register risk cat .treaties)
+      ≡ yearAfter shares (contractsFrom register risk cat .treaties)
       (yearHeld (contractsFrom register risk cat) ms₀ ns₀) done
-  pub booked : EventsBooked (contractsFrom register risk cat)
+  pub booked : EventsBooked shares (contractsFrom register risk cat)
       (yearHeld (contractsFrom register risk cat) ms₀ ns₀) first done d₀ d ms ns cs
       (record { total = total; day = last; next = next })
   pub totals-le : Each (λ (n : ℕ). n ≤ 13 * 10 ^ 13 * at) (amountsNumbers total)
   pub cessions-le : Each (λ (n : ℕ). n ≤ 10 ^ 13 * at) cs
 
-pub booking-begins : {register risk cat events : List ℕ} {first : ℕ} {ms ns cs d : List ℕ} {total : Amounts}
-    → CanBookEvents register risk cat events ms ns cs → total ≡ added []
-    → Booking register risk cat events first ms ns d ms ns cs d total first 0 0
+pub booking-begins : {shares register risk cat events : List ℕ} {first : ℕ} {ms ns cs d : List ℕ} {total : Amounts}
+    → CanBookEvents shares register risk cat events ms ns cs → total ≡ added []
+    → Booking shares register risk cat events first ms ns d ms ns cs d total first 0 0
 booking-begins {d = d} h z = record {
   lent = h .lent;
   done = [];
@@ -182,19 +182,9 @@ room-of-losses : (xs : List Loss) → (length xs ≡ 0 → ⊥) → lineRoom xs 
 room-of-losses [] h = absurd (h refl)
 room-of-losses (x ∷ xs) h = refl
 
--- an event under another day comes to the same
-same-amounts : (ts : List Treaty) (y : Year) (e : Event)
-    → eventAmounts ts y (eventWith (e .losses)) ≡ eventAmounts ts y e
-unfolding subjectOf
-same-amounts ts y e = refl
-
-same-after : (ts : List Treaty) (y : Year) (e : Event) → eventAfter ts y (eventWith (e .losses)) ≡ eventAfter ts y e
-unfolding subjectOf
-same-after ts y e = refl
-
-module _ {register risk cat events : List ℕ} {first : ℕ} {ms₀ ns₀ d₀ ms ns cs d : List ℕ} {total : Amounts}
+module _ {shares register risk cat events : List ℕ} {first : ℕ} {ms₀ ns₀ d₀ ms ns cs d : List ℕ} {total : Amounts}
     {last next at : ℕ}
-    (g : Booking register risk cat events first ms₀ ns₀ d₀ ms ns cs d total last next at) where
+    (g : Booking shares register risk cat events first ms₀ ns₀ d₀ ms ns cs d total last next at) where
   abbrev c : Contracts
   c = contractsFrom register risk cat
 
@@ -223,12 +213,12 @@ module _ {register risk cat events : List ℕ} {first : ℕ} {ms₀ ns₀ d₀ m
 
   -- no event is ahead
   pub all-booked : length events ≤ at → (es : List Event) → events ≡ eventsNumbers es
-      → EventsBooked c y₀ first es d₀ d ms ns cs (record { total = total; day = last; next = next })
+      → EventsBooked shares c y₀ first es d₀ d ms ns cs (record { total = total; day = last; next = next })
   all-booked h es q =
       let none : g .ahead ≡ [] = no-numbers (g .ahead) (omega (arith, ap length left, length-drop at events)) in
       let all : g .done ≡ es =
       events-same (g .done) es (ap eventsNumbers (sym (append-nil (g .done))) ∙ (rw none at (sym (g .whole))) ∙ q) in
-      subst (λ (fs : List Event). EventsBooked c y₀ first fs d₀ d ms ns cs
+      subst (λ (fs : List Event). EventsBooked shares c y₀ first fs d₀ d ms ns cs
       (record { total = total; day = last; next = next })) all (g .booked)
     where
       no-numbers : (es : List Event) → length (eventsNumbers es) ≤ 0 → es ≡ []
@@ -324,7 +314,7 @@ module _ {register risk cat events : List ℕ} {first : ℕ} {ms₀ ns₀ d₀ m
       small : (ks : List ℕ) (b : ℕ) → b ≤ 2 ^ 62 → Each (λ (m : ℕ). m ≤ b) ks → Each (λ (m : ℕ). m ≤ 2 ^ 62) ks
       small ks b h = each-so (λ (m : ℕ). m ≤ b) (λ (m : ℕ). m ≤ 2 ^ 62) (λ m i. omega arith) ks
 
-      pub can-enter : CanEnterEvent register risk cat slice ms ns cs
+      pub can-enter : CanEnterEvent shares register risk cat slice ms ns cs
       can-enter = record {
         lent = g .lent;
         losses = rw losses-are ((rw (a .is) at (g .losses)) .0);
@@ -348,14 +338,14 @@ module _ {register risk cat events : List ℕ} {first : ℕ} {ms₀ ns₀ d₀ m
           )
 
       -- what does not depend on how it was booked
-      goes-on : {ms′ ns′ cs′ d′ : List ℕ} {total′ : Amounts} {next′ : ℕ} → Lent register risk cat ms′ ns′
+      goes-on : {ms′ ns′ cs′ d′ : List ℕ} {total′ : Amounts} {next′ : ℕ} → Lent shares register risk cat ms′ ns′
           → length cs′ ≡ 9 → length d′ ≡ length d → length ms′ ≡ length ms → length ns′ ≡ length ns
-          → yearHeld c ms′ ns′ ≡ eventAfter (c .treaties) y e
-          → EventsBooked c y₀ first (g .done ++ (e ∷ [])) d₀ d′ ms′ ns′ cs′
+          → yearHeld c ms′ ns′ ≡ eventAfter shares (c .treaties) y e
+          → EventsBooked shares c y₀ first (g .done ++ (e ∷ [])) d₀ d′ ms′ ns′ cs′
           (record { total = total′; day = e .day; next = next′ })
           → Each (λ (n : ℕ). n ≤ 13 * 10 ^ 13 * end) (amountsNumbers total′)
           → Each (λ (n : ℕ). n ≤ 10 ^ 13 * end) cs′
-          → Booking register risk cat events first ms₀ ns₀ d₀ ms′ ns′ cs′ d′ total′ day next′ end
+          → Booking shares register risk cat events first ms₀ ns₀ d₀ ms′ ns′ cs′ d′ total′ day next′ end
       goes-on {ms′} {ns′} {cs′} {d′} {total′} {next′} l nine same er ec year booked t s = record {
         lent = l;
         done = g .done ++ (e ∷ []);
@@ -374,9 +364,9 @@ module _ {register risk cat events : List ℕ} {first : ℕ} {ms₀ ns₀ d₀ m
         eight-cat = ec ∙ g .eight-cat;
         year =
             year
-            ∙ ap (λ (z : Year). eventAfter (c .treaties) z e) (g .year)
-            ∙ sym (year-append (c .treaties) y₀ (g .done) (e ∷ []));
-        booked = subst (λ (k : ℕ). EventsBooked c y₀ first (g .done ++ (e ∷ [])) d₀ d′ ms′ ns′ cs′
+            ∙ ap (λ (z : Year). eventAfter shares (c .treaties) z e) (g .year)
+            ∙ sym (year-append shares (c .treaties) y₀ (g .done) (e ∷ []));
+        booked = subst (λ (k : ℕ). EventsBooked shares c y₀ first (g .done ++ (e ∷ [])) d₀ d′ ms′ ns′ cs′
             (record { total = total′; day = k; next = next′ })) (sym dated) booked;
         totals-le = t;
         cessions-le = s;
@@ -398,24 +388,25 @@ module _ {register risk cat events : List ℕ} {first : ℕ} {ms₀ ns₀ d₀ m
         sound : Each Sound (y .cat)
         sound = bears-sound (g .lent .cat)
 
-        year-stays : y ≡ eventAfter (c .treaties) y e
+        year-stays : y ≡ eventAfter shares (c .treaties) y e
         year-stays =
-            year-same (c .treaties) y sound (e .day) ∙ ap (eventAfter (c .treaties) y) is-idle
+            year-same shares (g .lent .fair) (c .treaties) y sound (e .day)
+            ∙ ap (eventAfter shares (c .treaties) y) is-idle
 
-        now-stays : yearAfter (c .treaties) y₀ (g .done)
-            ≡ eventAfter (c .treaties) (yearAfter (c .treaties) y₀ (g .done)) e
-        now-stays = subst (λ (z : Year). z ≡ eventAfter (c .treaties) z e) (g .year) year-stays
+        now-stays : yearAfter shares (c .treaties) y₀ (g .done)
+            ≡ eventAfter shares (c .treaties) (yearAfter shares (c .treaties) y₀ (g .done)) e
+        now-stays = subst (λ (z : Year). z ≡ eventAfter shares (c .treaties) z e) (g .year) year-stays
 
-        nothing : added [] ≡ eventAmounts (c .treaties) (yearAfter (c .treaties) y₀ (g .done)) e
+        nothing : added [] ≡ eventAmounts shares (c .treaties) (yearAfter shares (c .treaties) y₀ (g .done)) e
         nothing =
-            amounts-none (c .treaties) y sound (e .day)
-            ∙ (λ i. eventAmounts (c .treaties) (g .year i) (is-idle i))
+            amounts-none shares (g .lent .fair) (c .treaties) y sound (e .day)
+            ∙ (λ i. eventAmounts shares (c .treaties) (g .year i) (is-idle i))
 
         pub one-idle : {d′ : List ℕ} {next′ : ℕ}
             → Put d next (filled eventTemplate (eventNumbers (record { day = day; amounts = added [] })) (10 ∷ [])) d′
             next′
             → next′ ≤ next + 86 → length d′ ≡ length d
-            → Booking register risk cat events first ms₀ ns₀ d₀ ms ns cs d′ total day next′ end
+            → Booking shares register risk cat events first ms₀ ns₀ d₀ ms ns cs d′ total day next′ end
         one-idle put room same =
             goes-on (g .lent) (g .nine) same refl refl year-stays
             (one-booked (g .booked) e nothing
@@ -427,39 +418,40 @@ module _ {register risk cat events : List ℕ} {first : ℕ} {ms₀ ns₀ d₀ m
 
       -- an event with losses
       module _ (some : count ≡ 0 → ⊥) {ms′ ns′ cs′ : List ℕ} {r : Amounts}
-          (entered : EventEntered c y (lossesFrom slice) ms′ ns′ cs cs′ r) where
+          (entered : EventEntered shares c y (record { day = day; losses = lossesFrom slice }) ms′ ns′ cs cs′ r) where
         pub room-for : RoomForMore total × RoomForMore r
         room-for = (
           small (amountsNumbers total) (13 * 10 ^ 13 * at) (omega (arith, within, g .short)) (g .totals-le),
-          small (amountsNumbers r) (64 * 10 ^ 13) (omega arith) (entered-amounts-le can-enter entered),
+          small (amountsNumbers r) (64 * 10 ^ 13) (omega arith) (entered-amounts-le can-enter day entered),
         )
 
         abbrev ts′ : List Treaty
         ts′ = c .treaties
 
         abbrev then : Year
-        then = yearAfter ts′ y₀ (g .done)
+        then = yearAfter shares ts′ y₀ (g .done)
 
-        came-to : r ≡ eventAmounts ts′ then e
-        came-to =
-            entered .amounts
-            ∙ ap (λ (zs : List Loss). eventAmounts ts′ y (eventWith zs)) losses-are
-            ∙ same-amounts ts′ y e
-            ∙ ap (λ (z : Year). eventAmounts ts′ z e) (g .year)
+        is-event : record { day = day; losses = lossesFrom slice } ≡ e
+        is-event i = record { day = dated i; losses = losses-are i }
 
-        leads-to : eventAfter ts′ y (eventWith (lossesFrom slice)) ≡ eventAfter ts′ y e
-        leads-to = ap (λ (zs : List Loss). eventAfter ts′ y (eventWith zs)) losses-are ∙ same-after ts′ y e
+        came-to : r ≡ eventAmounts shares ts′ then e
+        came-to = entered .amounts ∙ (λ i. eventAmounts shares ts′ (g .year i) (is-event i))
 
-        leads-then : eventAfter ts′ y (eventWith (lossesFrom slice)) ≡ eventAfter ts′ then e
-        leads-then = leads-to ∙ ap (λ (z : Year). eventAfter ts′ z e) (g .year)
+        leads-to : eventAfter shares ts′ y (record { day = day; losses = lossesFrom slice })
+            ≡ eventAfter shares ts′ y e
+        leads-to = ap (eventAfter shares ts′ y) is-event
+
+        leads-then : eventAfter shares ts′ y (record { day = day; losses = lossesFrom slice })
+            ≡ eventAfter shares ts′ then e
+        leads-then = leads-to ∙ ap (λ (z : Year). eventAfter shares ts′ z e) (g .year)
 
         pub one-entered : {d′ : List ℕ} {total′ : Amounts} {next′ : ℕ} → total′ ≡ added (total ∷ r ∷ [])
             → Put d next (filled eventTemplate (eventNumbers (record { day = day; amounts = r })) (10 ∷ [])) d′ next′
             → next′ ≤ next + 200 → length d′ ≡ length d → length ms′ ≡ length ms → length ns′ ≡ length ns
-            → Booking register risk cat events first ms₀ ns₀ d₀ ms′ ns′ cs′ d′ total′ day next′ end
+            → Booking shares register risk cat events first ms₀ ns₀ d₀ ms′ ns′ cs′ d′ total′ day next′ end
         one-entered {total′ = total′} is put room same er ec =
-            goes-on (entered-lent can-enter entered) (entered-nine can-enter entered) same er ec
-            (entered-year can-enter entered ∙ leads-to)
+            goes-on (entered-lent can-enter day entered) (entered-nine can-enter day entered) same er ec
+            (entered-year can-enter day entered ∙ leads-to)
             (one-booked (g .booked) e came-to
             (entered .risk ∙ ap (λ (z : Year). placesOf (z .risk)) leads-then)
             (entered .cat ∙ ap (λ (z : Year). placesOf (z .cat)) leads-then)
@@ -467,11 +459,11 @@ module _ {register risk cat events : List ℕ} {first : ℕ} {ms₀ ns₀ d₀ m
             (rw dated at put) (rw (room-of-losses xs (λ z. some (counted ∙ z))) room))
             (rw is
             (amounts-added-le (13 * 10 ^ 13 * at) (64 * 10 ^ 13) (13 * 10 ^ 13 * end) total r
-            (omega (arith, is-from, is-end, some-counted)) (g .totals-le) (entered-amounts-le can-enter entered)))
+            (omega (arith, is-from, is-end, some-counted)) (g .totals-le) (entered-amounts-le can-enter day entered)))
             (each-so (λ (m : ℕ). m ≤ 10 ^ 13 * at + 10 ^ 13 * length (lossesFrom slice))
             (λ (m : ℕ). m ≤ 10 ^ 13 * end)
             (λ m i. omega (arith, ap length losses-are, counted, is-from, is-end)) cs′
-            (entered-cessions-le can-enter entered (10 ^ 13 * at) (g .cessions-le)))
+            (entered-cessions-le can-enter day entered (10 ^ 13 * at) (g .cessions-le)))
           where
             some-counted : 1 ≤ count
             some-counted = by-lt 0 count (λ h. omega (arith, h)) (λ h. absurd (some (omega (arith, h))))

@@ -50,32 +50,36 @@ fn no_amounts() -> Amounts
     }
 }
 
-// What an event comes to. The spent amounts are those after it, and what each treaty cedes is added to its place of
-// `cessions`.
+// What an event comes to. The numbers of the tiers are those after it, and what each treaty cedes is added to its place
+// of `cessions`.
 fn enter(
+    shares: &[u64],
     register: &[u64],
     risk: &[u64],
     cat: &[u64],
+    day: u64,
     losses: &[u64],
-    risk_spent: &mut [u64],
-    cat_spent: &mut [u64],
+    risk_held: &mut [u64],
+    cat_held: &mut [u64],
     cessions: &mut [u64],
 ) -> Amounts
-    requires { ⌜ CanEnterEvent (now register) (now risk) (now cat) (now losses) (now «risk_spent») (now «cat_spent»)
-        (now cessions) ⌝ }
-    ensures { λ r. ⌜ EventEntered (contractsFrom (now (register .entry)) (now (risk .entry)) (now (cat .entry)))
+    requires { ⌜ CanEnterEvent (now shares) (now register) (now risk) (now cat) (now losses) (now «risk_held»)
+        (now «cat_held») (now cessions) ⌝ }
+    ensures { λ r. ⌜ EventEntered (now (shares .entry))
+        (contractsFrom (now (register .entry)) (now (risk .entry)) (now (cat .entry)))
         (yearHeld (contractsFrom (now (register .entry)) (now (risk .entry)) (now (cat .entry)))
-        (now («risk_spent» .entry)) (now («cat_spent» .entry)))
-        (lossesFrom (now (losses .entry))) (now («risk_spent» .exit)) (now («cat_spent» .exit))
-        (now (cessions .entry)) (now (cessions .exit)) r ⌝ }
+        (now («risk_held» .entry)) (now («cat_held» .entry)))
+        (record { day = day; losses = lossesFrom (now (losses .entry)) }) (now («risk_held» .exit))
+        (now («cat_held» .exit)) (now (cessions .entry)) (now (cessions .exit)) r ⌝ }
 {
+    let share = scale::share_on(shares, day);
     let mut left = [0u64; rule::LOSSES];
     let treaties = event::cede_each(register, losses, &mut left, cessions);
     let count = kept::count(losses);
-    let risk_sums = tier::bear(risk, risk_spent, &left[..count]);
+    let risk_sums = tier::bear(risk, risk_held, share, &left[..count]);
     let by_risk = risk_sums.recovered.cents();
     let subject = treaties.gross - treaties.ceded - by_risk;
-    let cat_sums = tier::bear(cat, cat_spent, &[subject]);
+    let cat_sums = tier::bear(cat, cat_held, share, &[subject]);
     let by_cat = cat_sums.recovered.cents();
     let net = subject - by_cat;
     let premium = risk_sums.premium.cents() + cat_sums.premium.cents();
@@ -89,27 +93,30 @@ fn enter(
     }
 }
 
-// Books the events, three numbers for each loss (T, E, g) after the event's day and the count of its losses. The spent
-// amounts go on from those lent, what each treaty cedes in all is left in its place of `cessions`, which are 0 before,
-// and the lines are put from the front of `out`. An event without losses moves nothing but the day.
+// Books the events, three numbers for each loss (T, E, g) after the event's day and the count of its losses, with
+// premiums by the day's share. The numbers of the tiers go on from those lent, what each treaty cedes in all is left in
+// its place of `cessions`, which are 0 before, and the lines are put from the front of `out`. An event without losses
+// moves nothing but the day.
 pub fn book(
+    shares: &[u64],
     register: &[u64],
     risk: &[u64],
     cat: &[u64],
     events: &[u64],
     day: u64,
-    risk_spent: &mut [u64],
-    cat_spent: &mut [u64],
+    risk_held: &mut [u64],
+    cat_held: &mut [u64],
     cessions: &mut [u64],
     out: &mut [u8],
 ) -> Booked
-    requires { ⌜ CanBookEvents (now register) (now risk) (now cat) (now events) (now «risk_spent») (now «cat_spent»)
-        (now cessions) ⌝ }
+    requires { ⌜ CanBookEvents (now shares) (now register) (now risk) (now cat) (now events) (now «risk_held»)
+        (now «cat_held») (now cessions) ⌝ }
     ensures { λ r. ⌜ ((es : List Event) → now (events .entry) ≡ eventsNumbers es
-        → EventsBooked (contractsFrom (now (register .entry)) (now (risk .entry)) (now (cat .entry)))
+        → EventsBooked (now (shares .entry))
+        (contractsFrom (now (register .entry)) (now (risk .entry)) (now (cat .entry)))
         (yearHeld (contractsFrom (now (register .entry)) (now (risk .entry)) (now (cat .entry)))
-        (now («risk_spent» .entry)) (now («cat_spent» .entry))) day es (now (out .entry)) (now (out .exit))
-        (now («risk_spent» .exit)) (now («cat_spent» .exit)) (now (cessions .exit)) r) ⌝ }
+        (now («risk_held» .entry)) (now («cat_held» .entry))) day es (now (out .entry)) (now (out .exit))
+        (now («risk_held» .exit)) (now («cat_held» .exit)) (now (cessions .exit)) r) ⌝ }
 {
     let mut total = no_amounts();
     let mut last = day;
@@ -124,12 +131,14 @@ pub fn book(
             next = lines::put_idle(out, next, last);
         } else {
             let amounts = enter(
+                shares,
                 register,
                 risk,
                 cat,
+                last,
                 &events[begin..at],
-                risk_spent,
-                cat_spent,
+                risk_held,
+                cat_held,
                 cessions,
             );
             total = total_with(total, amounts);

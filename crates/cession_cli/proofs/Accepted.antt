@@ -21,7 +21,8 @@ use Rattle.events.specs.Rules.{eventFault}
 use Rattle.events.specs.Read.{EventsRead, turnedDown, events, eventBefore, unlessFault, readFrom, eventsOf}
 use Rattle.year.specs.declared.Standing.{Standing}
 use Rattle.year.specs.Standing.{standingPasses}
-use Rattle.year.specs.Run.{Left, runThrough, runFrom, runOf}
+use Rattle.scale.specs.Scale.{timeShares}
+use Rattle.year.specs.Run.{Left, runThrough, runFrom, runUnder, runOf}
 use Rattle.engine.specs.declared.run.Ran.{Ran}
 use Rattle.engine.specs.Run.{ranOf}
 
@@ -62,23 +63,25 @@ either : (b : Bool) (x y : Outcome Left) → Numbered x → Numbered y → Numbe
 either true x y h g = h
 either false x y h g = g
 
-through-numbered : (c : Contracts) (s : Standing) (room : ℕ) (r : EventsRead) → Told r
-    → Numbered (runThrough c s room r)
-through-numbered c s room (turnedDown n w) h = h
-through-numbered c s room (events es) h = either-way room _ _ Numbered (λ _. tt) (λ _. omega arith)
+module _ (shares : List ℕ) where
+  through-numbered : (c : Contracts) (s : Standing) (room : ℕ) (r : EventsRead) → Told r
+      → Numbered (runThrough shares c s room r)
+  through-numbered c s room (turnedDown n w) h = h
+  through-numbered c s room (events es) h = either-way room _ _ Numbered (λ _. tt) (λ _. omega arith)
 
-from-numbered : (c : Contracts) (s : Standing) (text : List ℕ) (room : ℕ) → Numbered (runFrom c s text room)
-unfolding runFrom
-from-numbered c s text room =
-    either (standingPasses c s) (runThrough c s room (eventsOf (c .treaties) (s .day) text)) (refused 8 0)
-    (through-numbered c s room (eventsOf (c .treaties) (s .day) text) (text-told (c .treaties) (s .day) text))
-    (omega arith)
+  from-numbered : (c : Contracts) (s : Standing) (text : List ℕ) (room : ℕ)
+      → Numbered (runFrom shares c s text room)
+  unfolding runFrom
+  from-numbered c s text room =
+      either (standingPasses c s) (runThrough shares c s room (eventsOf (c .treaties) (s .day) text)) (refused 8 0)
+      (through-numbered c s room (eventsOf (c .treaties) (s .day) text) (text-told (c .treaties) (s .day) text))
+      (omega arith)
 
-run-numbered : (p : Programme) (s : Standing) (text : List ℕ) (room : ℕ) → Numbered (runOf p s text room)
-unfolding runOf
-run-numbered p s text room =
-    either (valid p) (runFrom (contractsIn p) s text room) (refused 6 0) (from-numbered (contractsIn p) s text room)
-    (omega arith)
+  run-numbered : (p : Programme) (s : Standing) (text : List ℕ) (room : ℕ) → Numbered (runUnder shares p s text room)
+  unfolding runUnder
+  run-numbered p s text room =
+      either (valid p) (runFrom shares (contractsIn p) s text room) (refused 6 0)
+      (from-numbered (contractsIn p) s text room) (omega arith)
 
 -- an outcome that is not refused fills the front of the buffer
 front : (o : Outcome Left) (d : List ℕ) → Numbered o → answerOf o .refusal ≡ 0
@@ -91,7 +94,7 @@ module _ (p : Programme) (s : Standing) (text d d′ : List ℕ) (r : Ran) where
   pub statement-inside : r ≡ ranOf (runOf p s text (length d)) s → d′ ≡ bufferAfter (runOf p s text (length d)) d
       → r .answer .refusal ≡ 0 → r .answer .number ≤ length d′
   statement-inside f g e =
-      rw (f, g) (front (runOf p s text (length d)) d (run-numbered p s text (length d))
+      rw (f, g) (front (runOf p s text (length d)) d (run-numbered timeShares p s text (length d))
       (sym (ap (λ (x : Ran). x .answer .refusal) f) ∙ e))
 
   pub statement-counted : r ≡ ranOf (runOf p s text (length d)) s → d′ ≡ bufferAfter (runOf p s text (length d)) d

@@ -12,6 +12,8 @@ use Rattle.text.specs.Lines.{linesOf}
 use Rattle.treaty.specs.Treaty.{cededByQuota, cededBySurplus, cededOf, cutToLimit, cededOfLoss}
 use Rattle.treaty.specs.Losses.{cededIn}
 use Rattle.layer.specs.Layer.{placedOf, recoveredOf, ratedOf, premiumOf, recoveryOf, chargeOf}
+use Rattle.layer.specs.Layer.{dueFor, dueOf, timedPart, timedMost, yearPremium}
+use Rattle.scale.specs.Scale.{dayShare, timeShares}
 use Rattle.answer.specs.declared.Answer.{Answer}
 use Rattle.answer.specs.Outcome.{refused, fitted, answerOf, bufferAfter}
 use Rattle.programme.specs.declared.contract.Programme.{Programme}
@@ -19,7 +21,8 @@ use Rattle.programme.specs.Ranges.{outside, treatyOutside, ratesOutside, termsO
 use Rattle.programme.specs.Rules.{treatyFault, layerFault}
 use Rattle.programme.specs.Valid.{validTreaties, validLayers, valid}
 use Rattle.table_text.specs.declared.Reading.{Reading}
-use Rattle.table_text.specs.Forms.{kindOf, ratesText, layerNumbers, formOfKind, formOf, treatyLine}
+use Rattle.table_text.specs.Forms.{kindOf, ratesText, layerNumbers, tailTime, layerTerms, formOfKind, formOf}
+use Rattle.table_text.specs.Forms.{treatyLine}
 use Rattle.table_text.specs.Read.{readFrom, readOf}
 use Rattle.table_text.specs.Write.{writeOf}
 use Rattle.events.specs.Event.{closes, lossesUpTo, eventOf}
@@ -30,41 +33,45 @@ use Rattle.year.specs.declared.Opening.{Opening}
 use Rattle.year.specs.Event.{subjectOf}
 use Rattle.year.specs.Statement.{statementText}
 use Rattle.year.specs.Standing.{openOf, standingPasses}
-use Rattle.year.specs.Run.{runFrom, runOf, standingAfter}
+use Rattle.year.specs.Run.{runFrom, runUnder, runOf, standingAfter}
 use Rattle.client.specs.declared.After.{After}
 use Rattle.client.specs.After.{afterOf}
-use Rattle.client.specs.Sidney.{noProgramme, zeros, tableText, eventsText, statement, sidney, unusedPlace}
+use Rattle.client.specs.Sidney.{noProgramme, opened, tableText, eventsText, statement, sidney, unusedPlace}
 use Rattle.client.specs.Sidney.{afterwards, overTheWhole}
+use Rattle.client.specs.Timed.{timedTable, timedEvents, timedStatement, timed, charged, overcharged}
 
--- the all-zero standing
-abbrev none : Standing
-none = record { risk = zeros; cat = zeros; day = 0 }
-
-record Computed : Type 0 where
+pub record Computed : Type 0 where
   pub read : readOf tableText ≡ record { refusal = 0; line = 0; programme = sidney }
   pub not-read : readOf overTheWhole ≡ record { refusal = 3; line = 2; programme = noProgramme }
-  pub opened : openOf sidney ≡ record { refusal = 0; number = 0; standing = none }
-  pub not-opened : openOf unusedPlace ≡ record { refusal = 6; number = 0; standing = none }
+  pub year-opened : openOf sidney ≡ record { refusal = 0; number = 0; standing = opened }
+  pub not-opened : openOf unusedPlace ≡ record { refusal = 6; number = 0; standing = opened }
   pub wrote : answerOf (writeOf sidney 241) ≡ record { refusal = 0; number = 238 }
   pub wrote-bytes : bufferAfter (writeOf sidney 241) (replicate 241 35) ≡ tableText ++ (35 ∷ 35 ∷ 35 ∷ [])
   pub not-written : writeOf sidney 237 ≡ refused 7 238
-  pub ran : answerOf (runOf sidney none eventsText 444) ≡ record { refusal = 0; number = 443 }
-  pub ran-standing : standingAfter (runOf sidney none eventsText 444) none ≡ afterwards
-  pub ran-bytes : bufferAfter (runOf sidney none eventsText 444) (replicate 444 35) ≡ statement ++ (35 ∷ [])
+  pub ran : answerOf (runOf sidney opened eventsText 444) ≡ record { refusal = 0; number = 443 }
+  pub ran-standing : standingAfter (runOf sidney opened eventsText 444) opened ≡ afterwards
+  pub ran-bytes : bufferAfter (runOf sidney opened eventsText 444) (replicate 444 35) ≡ statement ++ (35 ∷ [])
   pub not-run : (room : ℕ) → runOf sidney afterwards (bytes "(event 367)\n") room ≡ refused 11 1
+  pub read-timed : readOf timedTable ≡ record { refusal = 0; line = 0; programme = timed }
+  pub opened-timed : openOf timed ≡ record { refusal = 0; number = 0; standing = opened }
+  pub ran-timed : answerOf (runOf timed opened timedEvents 243) ≡ record { refusal = 0; number = 242 }
+  pub charged-timed : standingAfter (runOf timed opened timedEvents 243) opened ≡ charged
+  pub bytes-timed : bufferAfter (runOf timed opened timedEvents 243) (replicate 243 35) ≡ timedStatement ++ (35 ∷ [])
+  pub too-much : (text : List ℕ) (room : ℕ) → runOf timed overcharged text room ≡ refused 8 0
 
-computed : Computed
+pub computed : Computed
 unfolding
     rounded printedBy printed digitOf readOn number capital filled matched wholeOf lineNumbers linesOf
     cededByQuota cededBySurplus cededOf cutToLimit cededOfLoss placedOf recoveredOf ratedOf premiumOf recoveryOf
-    chargeOf kindOf ratesText layerNumbers formOfKind formOf treatyLine outside treatyOutside ratesOutside
+    chargeOf dueFor dueOf timedPart timedMost yearPremium dayShare timeShares kindOf ratesText layerNumbers tailTime
+    layerTerms formOfKind formOf treatyLine outside treatyOutside ratesOutside
     termsOutside treatyNotZero termsNotZero treatyFault layerFault readFrom readOf validTreaties validLayers valid
     closes lossesUpTo eventOf lossOutside eventOutside lacking eventFault eventsOf eventsFrom cededIn subjectOf
-    statementText openOf standingPasses fitted writeOf runFrom runOf
+    statementText openOf standingPasses fitted writeOf runFrom runUnder
 computed = record {
   read = refl;
   not-read = refl;
-  opened = refl;
+  year-opened = refl;
   not-opened = refl;
   wrote = refl;
   wrote-bytes = refl;
@@ -73,6 +80,12 @@ computed = record {
   ran-standing = refl;
   ran-bytes = refl;
   not-run = λ room. refl;
+  read-timed = refl;
+  opened-timed = refl;
+  ran-timed = refl;
+  charged-timed = refl;
+  bytes-timed = refl;
+  too-much = λ text room. refl;
 }
 
 -- as the calls' contracts have them
@@ -81,15 +94,15 @@ pub reading-is : {s : List ℕ} {r : Reading} → s ≡ tableText → r ≡ read
 reading-is e f = f ∙ ap readOf e ∙ computed .read
 
 pub opening-is : {p : Programme} {r : Opening} → p ≡ sidney → r ≡ openOf p
-    → r ≡ record { refusal = 0; number = 0; standing = none }
-opening-is e f = f ∙ ap openOf e ∙ computed .opened
+    → r ≡ record { refusal = 0; number = 0; standing = opened }
+opening-is e f = f ∙ ap openOf e ∙ computed .year-opened
 
 pub read-turned-down : {s : List ℕ} {r : Reading} → s ≡ overTheWhole → r ≡ readOf s
     → r ≡ record { refusal = 3; line = 2; programme = noProgramme }
 read-turned-down e f = f ∙ ap readOf e ∙ computed .not-read
 
 pub opening-turned-down : {p : Programme} {r : Opening} → p ≡ unusedPlace → r ≡ openOf p
-    → r ≡ record { refusal = 6; number = 0; standing = none }
+    → r ≡ record { refusal = 6; number = 0; standing = opened }
 opening-turned-down e f = f ∙ ap openOf e ∙ computed .not-opened
 
 -- a table that is read
@@ -108,9 +121,9 @@ module _ {r : Reading} (a : r ≡ record { refusal = 0; line = 0; programme = si
     table-bytes f = rw (programme-is, e) at f ∙ computed .wrote-bytes
 
   -- and for whose programme a year is opened and the event run
-  module _ {o : Opening} (c : o ≡ record { refusal = 0; number = 0; standing = none }) {s d : List ℕ}
+  module _ {o : Opening} (c : o ≡ record { refusal = 0; number = 0; standing = opened }) {s d : List ℕ}
       (e : s ≡ eventsText) (f : d ≡ replicate 444 35) where
-    standing-is : o .standing ≡ none
+    standing-is : o .standing ≡ opened
     standing-is = ap (λ (o : Opening). o .standing) c
 
     pub run-after : {x : After} → x ≡ afterOf (runOf (r .programme) (o .standing) s (length d)) (o .standing)

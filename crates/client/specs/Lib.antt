@@ -1,2 +1,3 @@
 pub mod After
 pub mod Sidney
+pub mod Timed

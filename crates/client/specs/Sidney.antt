@@ -40,11 +40,11 @@ abbrev noTreaty : Treaty
 noTreaty = record { kind = 0; number = 0; cede = 0; capacity = 0; retention = 0; lines = 0; limit = 0 }
 
 -- twenty rates, of which the first alone is other than 0
-abbrev firstRate : ℕ → List ℕ
+abbrev pub firstRate : ℕ → List ℕ
 firstRate q =
     q ∷ 0 ∷ 0 ∷ 0 ∷ 0 ∷ 0 ∷ 0 ∷ 0 ∷ 0 ∷ 0 ∷ 0 ∷ 0 ∷ 0 ∷ 0 ∷ 0 ∷ 0 ∷ 0 ∷ 0 ∷ 0 ∷ 0 ∷ []
 
-abbrev noLayer : Terms
+abbrev pub noLayer : Terms
 noLayer = record {
   attachment = 0;
   limit = 0;
@@ -53,16 +53,17 @@ noLayer = record {
   premium = 0;
   placed = 0;
   rates = firstRate 0;
+  time = 0;
 }
 
 -- a kind without contracts, in its eight places
-abbrev noTreaties : Treaties
+abbrev pub noTreaties : Treaties
 noTreaties = record {
   places = noTreaty ∷ noTreaty ∷ noTreaty ∷ noTreaty ∷ noTreaty ∷ noTreaty ∷ noTreaty ∷ noTreaty ∷ [];
   count = 0;
 }
 
-abbrev noLayers : Layers
+abbrev pub noLayers : Layers
 noLayers = record {
   places = noLayer ∷ noLayer ∷ noLayer ∷ noLayer ∷ noLayer ∷ noLayer ∷ noLayer ∷ noLayer ∷ [];
   count = 0;
@@ -82,6 +83,7 @@ first = record {
   premium = 0;
   placed = 10000;
   rates = firstRate 0;
+  time = 0;
 }
 
 abbrev second : Terms
@@ -93,6 +95,7 @@ second = record {
   premium = 75000000;
   placed = 8000;
   rates = firstRate 5000;
+  time = 0;
 }
 
 abbrev third : Terms
@@ -104,6 +107,7 @@ third = record {
   premium = 30000000;
   placed = 7200;
   rates = firstRate 10000;
+  time = 0;
 }
 
 -- the first n of the three places used
@@ -127,10 +131,16 @@ unusedPlace = firstUsed 2
 abbrev pub zeros : List ℕ
 zeros = 0 ∷ 0 ∷ 0 ∷ 0 ∷ 0 ∷ 0 ∷ 0 ∷ 0 ∷ []
 
+-- the standing of a fresh year
+abbrev pub opened : Standing
+opened = record { risk = zeros; cat = zeros; day = 0; «risk_timed» = zeros; «cat_timed» = zeros }
+
 -- the standing after the event
 abbrev pub afterwards : Standing
 afterwards = record {
   risk = zeros;
   cat = 75000000 ∷ 150000000 ∷ 100000000 ∷ 0 ∷ 0 ∷ 0 ∷ 0 ∷ 0 ∷ [];
   day = 230;
+  «risk_timed» = zeros;
+  «cat_timed» = zeros;
 }

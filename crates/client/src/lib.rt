@@ -1,5 +1,6 @@
-// A client of the public calls alone. It reads and writes the table of H1, opens its year and runs its event, and
-// makes calls that are turned down. What each answers and leaves is typed out, and follows from the calls' contracts.
+// A client of the public calls alone. It reads and writes the table of H1, opens its year and runs its event, does so
+// with a table that charges by amount and time, and makes calls that are turned down. What each answers and leaves is
+// typed out, and follows from the calls' contracts.
 ghost use mathlib.Core.Path.{_≡_};
 ghost use mathlib.Core.List.{[], _∷_, _++_};
 ghost use lib.ListN.{length, replicate};
@@ -7,8 +8,9 @@ ghost use Rattle.text.specs.Bytes.{bytes};
 ghost use Rattle.answer.specs.Outcome.{bufferAfter};
 ghost use Rattle.year.specs.Run.{runOf};
 ghost use Rattle.client.specs.After.{afterOf};
-ghost use Rattle.client.specs.Sidney.{noProgramme, zeros, tableText, eventsText, statement, sidney, unusedPlace};
-ghost use Rattle.client.specs.Sidney.{afterwards, overTheWhole};
+ghost use Rattle.client.specs.Sidney.{noProgramme, opened, tableText, eventsText, statement, sidney};
+ghost use Rattle.client.specs.Sidney.{unusedPlace, afterwards, overTheWhole};
+ghost use Rattle.client.specs.Timed.{timedTable, timedEvents, timedStatement, timed, charged, overcharged};
 use answer::Answer;
 use programme::contract::Programme;
 use table_text::Reading;
@@ -48,8 +50,7 @@ pub fn read_sidney(table: &[u8]) -> Reading
 // Its year: no refusal, and the standing of a fresh year.
 pub fn open_sidney(programme: Programme) -> Opening
     requires { ⌜ programme ≡ sidney ⌝ }
-    ensures { λ r. ⌜ r
-        ≡ record { refusal = 0; number = 0; standing = record { risk = zeros; cat = zeros; day = 0 } } ⌝ }
+    ensures { λ r. ⌜ r ≡ record { refusal = 0; number = 0; standing = opened } ⌝ }
 {
     cession::cession_open(programme)
 }
@@ -108,8 +109,33 @@ pub fn read_refused(table: &[u8]) -> Reading
 // A programme with a number other than 0 in an unused place: 6, and the standing of a fresh year.
 pub fn open_refused(programme: Programme) -> Opening
     requires { ⌜ programme ≡ unusedPlace ⌝ }
-    ensures { λ r. ⌜ r
-        ≡ record { refusal = 6; number = 0; standing = record { risk = zeros; cat = zeros; day = 0 } } ⌝ }
+    ensures { λ r. ⌜ r ≡ record { refusal = 6; number = 0; standing = opened } ⌝ }
 {
     cession::cession_open(programme)
+}
+
+// A table with (time), read, its year opened and its event run: the premium is that of the days left, in the statement
+// and in the standing.
+pub fn run_timed(table: &[u8], events: &[u8], buffer: &mut [u8]) -> After
+    requires { ⌜ (now table ≡ timedTable) × (now events ≡ timedEvents) × (now buffer ≡ replicate 243 35) ⌝ }
+    ensures { λ r. ⌜ (r ≡ record { answer = record { refusal = 0; number = 242 }; standing = charged })
+        × (now (buffer .exit) ≡ timedStatement ++ (35 ∷ [])) ⌝ }
+{
+    let reading = cession::cession_read(table);
+    let opening = cession::cession_open(reading.programme);
+    run_lent(reading.programme, opening.standing, events, buffer)
+}
+
+// A standing with a timed premium above the layer's amount premium: 8, and standing and buffer as lent.
+pub fn run_overcharged(
+    programme: Programme,
+    standing: Standing,
+    events: &[u8],
+    buffer: &mut [u8],
+) -> After
+    requires { ⌜ (programme ≡ timed) × (standing ≡ overcharged) ⌝ }
+    ensures { λ r. ⌜ (r ≡ record { answer = record { refusal = 8; number = 0 }; standing = standing })
+        × (now (buffer .exit) ≡ now (buffer .entry)) ⌝ }
+{
+    run_lent(programme, standing, events, buffer)
 }

@@ -29,11 +29,11 @@ use Rattle.engine.specs.declared.run.Ran.{Ran}
 use Rattle.engine.specs.Run.{ranOf, RanAs, runLines, runEvents, CanState, RoomFor, CanRun, PlacesFor}
 
 -- a place for each number
-pub with-places : (n m z : ℕ) {register risk cat : List ℕ} {s : Standing} {text : List ℕ} → n ≤ 65536
-    → 3 * n ≤ 13 * m → CanRun n register risk cat s text
-    → CanRun 65536 register risk cat s text × PlacesFor text (replicate m z)
+pub with-places : (n m z : ℕ) {shares register risk cat : List ℕ} {s : Standing} {text : List ℕ} → n ≤ 65536
+    → 3 * n ≤ 13 * m → CanRun n shares register risk cat s text
+    → CanRun 65536 shares register risk cat s text × PlacesFor text (replicate m z)
 with-places n m z h k r = (
-  record { lent = r .lent; short = omega (arith, r .short) },
+  record { lent = r .lent; places = r .places; short = omega (arith, r .short) },
   record { room = rw (length-replicate m z) (omega (arith, r .short)) },
 )
 
@@ -64,8 +64,8 @@ record Accepted (c : Contracts) (s : Standing) (text d d′ : List ℕ) (r : Exa
   kept : Put d 0 (eventsNumbers es) d′ (length (eventsNumbers es))
   short : 13 * length (eventsNumbers es) ≤ 3 * length text
 
-module _ {register risk cat : List ℕ} {s : Standing} {text d₀ : List ℕ}
-    (can : CanRun 65536 register risk cat s text) (places : PlacesFor text d₀) where
+module _ {shares register risk cat : List ℕ} {s : Standing} {text d₀ : List ℕ}
+    (can : CanRun 65536 shares register risk cat s text) (places : PlacesFor text d₀) where
   abbrev c : Contracts
   c = contractsFrom register risk cat
 
@@ -73,11 +73,11 @@ module _ {register risk cat : List ℕ} {s : Standing} {text d₀ : List ℕ}
       (q : readIs text d₀ d r (readFrom (c .treaties) 1 (s .day) (formsOf text))) where
     -- a line was at fault
     pub line-refused : (r .refusal ≡ 0 → ⊥) → (room : ℕ) (b : List ℕ) (x : Ran)
-        → x ≡ ranOf (refused (r .refusal) (r .line)) s → RanAs (runLines c s text room) s b b x
+        → x ≡ ranOf (refused (r .refusal) (r .line)) s → RanAs (runLines shares c s text room) s b b x
     line-refused z room b x e = by-answer (readFrom (c .treaties) 1 (s .day) (formsOf text)) refl q
       where
         by-answer : (o : EventsRead) → readFrom (c .treaties) 1 (s .day) (formsOf text) ≡ o → readIs text d₀ d r o
-            → RanAs (runLines c s text room) s b b x
+            → RanAs (runLines shares c s text room) s b b x
         by-answer (turnedDown k l) g told =
             let refusal = ap (λ (y : Examined). y .refusal) (told .0) in
             let line = ap (λ (y : Examined). y .line) (told .0) in
@@ -126,9 +126,10 @@ module _ {register risk cat : List ℕ} {s : Standing} {text d₀ : List ℕ}
       lawful : Each EventLawful (a .es)
       lawful = lines-lawful (c .treaties) 1 (s .day) (formsOf text) (a .es) (a .read)
 
-      pub can-state : CanState register risk cat s (take (r .end) d)
+      pub can-state : CanState shares register risk cat s (take (r .end) d)
       can-state = record {
         lent = can .lent;
+        places = can .places;
         es = a .es;
         held = front;
         losses = each-so EventLawful (λ (e : Event). Each LossInRange (e .losses)) (λ e h. h .losses) (a .es) lawful;
@@ -161,6 +162,7 @@ module _ {register risk cat : List ℕ} {s : Standing} {text d₀ : List ℕ}
 
       -- the statement is that of the run
       pub as-run : (b b′ : List ℕ) (x : Ran)
-          → ((es : List Event) → take (r .end) d ≡ eventsNumbers es → RanAs (runEvents c s es (length b)) s b b′ x)
-          → RanAs (runLines c s text (length b)) s b b′ x
+          → ((es : List Event) → take (r .end) d ≡ eventsNumbers es
+          → RanAs (runEvents shares c s es (length b)) s b b′ x)
+          → RanAs (runLines shares c s text (length b)) s b b′ x
       as-run b b′ x f = rw (a .read) (f (a .es) front)

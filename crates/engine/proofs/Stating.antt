@@ -5,8 +5,10 @@ use mathlib.Core.List.{List, [], _∷_, _++_, map, map-append, append-assoc}
 use Prim.Native.Nat.{ℕ, zero, suc, _+_, _*_, _^_, _≤_, _<_}
 use native.Mathlib.Nat.{add-zero}
 use native.Mathlib.Omega.{arith}
-use lib.ListN.{length, getD, replicate, length-map}
+use lib.ListN.{length, take, drop, getD, replicate}
+use lib.Seq.{take-at, drop-at}
 use Rattle.lists.specs.Each.{Each}
+use Rattle.lists.specs.Places.{inPlaces}
 use Rattle.text.specs.Buffer.{Put}
 use Rattle.text.specs.Lines.{joined}
 use Rattle.text.specs.Template.{filled}
@@ -17,21 +19,22 @@ use Rattle.treaty.specs.declared.Treaty.{Treaty}
 use Rattle.treaty.proofs.Losses.{Numbered}
 use Rattle.layer.specs.declared.terms.Terms.{Terms}
 use Rattle.layer.specs.declared.record.Layer.{Layer}
-use Rattle.layer.specs.Numbers.{tierFrom}
+use Rattle.layer.specs.Numbers.{tierFrom, heldWidth}
 use Rattle.layer.specs.Ranges.{Sound}
 use Rattle.programme.specs.Contracts.{Contracts}
-use Rattle.programme.proofs.Places.{places-length}
+use Rattle.programme.proofs.Lawful.{Lawful}
 use Rattle.events.specs.Event.{Event}
 use Rattle.year.specs.declared.Amounts.{Amounts}
 use Rattle.year.specs.declared.Standing.{Standing}
 use Rattle.year.specs.Event.{Year, yearAfter}
-use Rattle.year.specs.Standing.{spentOf, layersWith, yearOf}
+use Rattle.year.specs.Standing.{spentOf, timedOf, layersWith, layersHeld, yearOf}
 use Rattle.year.specs.Statement.{TreatyLine, Line, Statement, cededBy, treatyLineOf, layerLineOf, statementOf}
 use Rattle.year.specs.Statement.{eventShown, treatyShown, layersShown, lineText, statementText}
 use Rattle.year.specs.Statement.{riskTemplate, catTemplate, totalTemplate, amountsNumbers}
 use Rattle.year.proofs.Layers.{Under, Carries, passes-carries, under-events, carries-length, carries-sound}
 use Rattle.year.proofs.Layers.{stored-loads}
 use Rattle.standings.specs.Tier.{placesOf}
+use Rattle.standings.proofs.LentTiers.{spent-half, timed-half, both-halves, held-halves}
 use Rattle.losses.specs.Cede.{cededAdded}
 use Rattle.losses.specs.Treaties.{treatiesFrom, placesFrom}
 use Rattle.losses.specs.Event.{eventsNumbers}
@@ -41,9 +44,9 @@ use Rattle.statement.specs.declared.row.Kind.the-variants.{Risk, Cat}
 use Rattle.statement.specs.TreatyLines.{cededLine}
 use Rattle.statement.specs.LineKinds.{widthOf}
 use Rattle.booking.specs.declared.book.Booked.{Booked}
-use Rattle.booking.specs.Book.{contractsFrom, cededThrough, EventsBooked}
+use Rattle.booking.specs.Book.{contractsFrom, yearHeld, CanBookEvents, cededThrough, EventsBooked}
 use Rattle.booking.proofs.EventsBooking.{room-le}
-use Rattle.engine.specs.Run.{CanState, StatedAs}
+use Rattle.engine.specs.Run.{riskHeld, catHeld, CanState, StatedAs}
 
 through-length : (ts : List Treaty) (cs : List ℕ) (es : List Event) → length (cededThrough ts cs es) ≡ length cs
 through-length ts cs [] = refl
@@ -113,41 +116,114 @@ parts t =
       filled-append totalTemplate (amountsNumbers (t .total)) (10 ∷ []),
     )
 
--- the places of layers are eight
-places-eight : (ts : List Terms) (ls : List Layer) → length ts ≤ 8 → Carries ts ls → length (placesOf ls) ≡ 8
-places-eight ts ls few c =
-    places-length 0 (spentOf ls)
-    (omega (arith, few, carries-length ts ls c, length-map ls (λ (y : Layer). y .spent .0)))
+-- the year of a standing's numbers, each tier's in one list, is the standing's
+year-held : (c : Contracts) (s : Standing) → (length (s .risk) ≡ 8) × (length (s .cat) ≡ 8)
+    → yearHeld c (riskHeld s) (catHeld s) ≡ yearOf c s
+year-held c s eight i = record {
+  risk =
+      layersWith (c .risk) (take-at (s .risk) (s .«risk_timed») 8 (eight .0) i)
+      (drop-at (s .risk) (s .«risk_timed») 8 (eight .0) i);
+  cat =
+      layersWith (c .cat) (take-at (s .cat) (s .«cat_timed») 8 (eight .1) i)
+      (drop-at (s .cat) (s .«cat_timed») 8 (eight .1) i);
+}
 
--- The events es were booked from a standing on, and what is left of the statement is put.
-module _ {register risk cat : List ℕ} {s : Standing} {ns : List ℕ} (h : CanState register risk cat s ns)
-    (es : List Event) (q : ns ≡ eventsNumbers es) {d d₁ ms ks cs : List ℕ} {r : Booked}
-    (b : EventsBooked (contractsFrom register risk cat) (yearOf (contractsFrom register risk cat) s) (s .day) es d d₁ ms
-    ks cs r) where
+-- The numbers of a tier's layers, which are at most eight.
+module _ (ns : List ℕ) (few : length (tierFrom ns) ≤ 8) (ls : List Layer) (c : Carries (tierFrom ns) ls) {hs : List ℕ}
+    (is : hs ≡ placesOf ls) where
+  few-layers : length ls ≤ 8
+  few-layers = omega (arith, few, carries-length (tierFrom ns) ls c)
+
+  -- they make these layers again
+  loaded : layersHeld (tierFrom ns) hs ≡ ls
+  loaded =
+      ap (layersHeld (tierFrom ns)) is
+      ∙ held-halves ls few-layers (tierFrom ns)
+      ∙ stored-loads (tierFrom ns) ls c
+
+  sixteen : length hs ≡ heldWidth
+  sixteen = ap length is ∙ both-halves ls few-layers
+
+  -- and their halves are what a standing has of them
+  spent-kept : take 8 hs ≡ inPlaces 0 (spentOf ls)
+  spent-kept = ap (take 8) is ∙ spent-half ls few-layers
+
+  timed-kept : drop 8 hs ≡ inPlaces 0 (timedOf ls)
+  timed-kept = ap (drop 8) is ∙ timed-half ls few-layers
+
+-- ms and ks are a standing's numbers of the tiers
+pub record HeldAs (s : Standing) (ms ks : List ℕ) : Type 0 where
+  pub risk : ms ≡ riskHeld s
+  pub cat : ks ≡ catHeld s
+
+-- events may be booked from them on
+pub can-book : {shares register risk cat : List ℕ} {s : Standing} {ns ms ks : List ℕ}
+    → CanState shares register risk cat s ns → HeldAs s ms ks
+    → CanBookEvents shares register risk cat ns ms ks (replicate 9 0)
+can-book h are = record {
+  lent = rw (are .risk, are .cat) (h .lent);
+  es = h .es;
+  held = h .held;
+  losses = h .losses;
+  few = h .few;
+  short = h .short;
+  cessions = refl;
+}
+
+-- The events es were booked from there on, and what is left of the statement is put.
+module _ {shares register risk cat : List ℕ} {s : Standing} {ns ms₀ ks₀ : List ℕ}
+    (h : CanState shares register risk cat s ns) (are : HeldAs s ms₀ ks₀) (es : List Event) (q : ns ≡ eventsNumbers es)
+    {d d₁ ms ks cs : List ℕ} {r : Booked}
+    (booked : EventsBooked shares (contractsFrom register risk cat)
+    (yearHeld (contractsFrom register risk cat) ms₀ ks₀) (s .day) es d d₁ ms ks cs r) where
   abbrev c : Contracts
   c = contractsFrom register risk cat
 
-  abbrev y : Year
-  y = yearAfter (c .treaties) (yearOf c s) es
+  b : EventsBooked shares c (yearOf c s) (s .day) es d d₁ ms ks cs r
+  b =
+      let same : yearHeld c ms₀ ks₀ ≡ yearOf c s =
+      (λ i. yearHeld c (are .risk i) (are .cat i)) ∙ year-held c s (h .places) in
+      subst (λ (y : Year). EventsBooked shares c y (s .day) es d d₁ ms ks cs r) same booked
 
-  after : Under c y
-  after =
-      under-events c (yearOf c s) es (record {
-        risk = passes-carries (tierFrom risk) (s .risk) (h .lent .risk .spent);
-        cat = passes-carries (tierFrom cat) (s .cat) (h .lent .cat .spent);
+  abbrev y : Year
+  y = yearAfter shares (c .treaties) (yearOf c s) es
+
+  lawful : Lawful c
+  lawful = record {
+    treaties = h .lent .register .passes;
+    risk = h .lent .risk .terms;
+    cat = h .lent .cat .terms;
+    few-risk = h .lent .risk .few;
+    few-cat = h .lent .cat .few;
+  }
+
+  before : Under c (yearOf c s)
+  before =
+      subst (Under c) (year-held c s (h .places)) (record {
+        risk = passes-carries (tierFrom risk) (take 8 (riskHeld s)) (drop 8 (riskHeld s)) (h .lent .risk .held);
+        cat = passes-carries (tierFrom cat) (take 8 (catHeld s)) (drop 8 (catHeld s)) (h .lent .cat .held);
       })
 
-  loaded-risk : layersWith (tierFrom risk) ms ≡ y .risk
-  loaded-risk = ap (layersWith (tierFrom risk)) (b .risk) ∙ stored-loads (tierFrom risk) (y .risk) (after .risk)
+  after : Under c y
+  after = under-events shares (h .lent .fair) c lawful (yearOf c s) es before
 
-  loaded-cat : layersWith (tierFrom cat) ks ≡ y .cat
-  loaded-cat = ap (layersWith (tierFrom cat)) (b .cat) ∙ stored-loads (tierFrom cat) (y .cat) (after .cat)
+  loaded-risk : layersHeld (tierFrom risk) ms ≡ y .risk
+  loaded-risk = loaded risk (h .lent .risk .few) (y .risk) (after .risk) (b .risk)
 
-  sound-risk : Each Sound (layersWith (tierFrom risk) ms)
+  loaded-cat : layersHeld (tierFrom cat) ks ≡ y .cat
+  loaded-cat = loaded cat (h .lent .cat .few) (y .cat) (after .cat) (b .cat)
+
+  sound-risk : Each Sound (layersHeld (tierFrom risk) ms)
   sound-risk = rw loaded-risk (carries-sound (tierFrom risk) (y .risk) (h .lent .risk .terms) (after .risk))
 
-  sound-cat : Each Sound (layersWith (tierFrom cat) ks)
+  sound-cat : Each Sound (layersHeld (tierFrom cat) ks)
   sound-cat = rw loaded-cat (carries-sound (tierFrom cat) (y .cat) (h .lent .cat .terms) (after .cat))
+
+  sixteen-risk : length ms ≡ heldWidth
+  sixteen-risk = sixteen risk (h .lent .risk .few) (y .risk) (after .risk) (b .risk)
+
+  sixteen-cat : length ks ≡ heldWidth
+  sixteen-cat = sixteen cat (h .lent .cat .few) (y .cat) (after .cat) (b .cat)
 
   next-small : r .next ≤ 650332
   next-small = omega (arith, b .room, room-le es, ap length q, h .short)
@@ -158,33 +234,21 @@ module _ {register risk cat : List ℕ} {s : Standing} {ns : List ℕ} (h : CanS
   numbers-inside : Each (λ (t : Treaty). t .number < length cs) (placesFrom register)
   numbers-inside = rw nine (numbers-below (h .lent .register))
 
-  eight-risk : length ms ≡ 8
-  eight-risk = ap length (b .risk) ∙ places-eight (tierFrom risk) (y .risk) (h .lent .risk .few) (after .risk)
-
-  eight-cat : length ks ≡ 8
-  eight-cat = ap length (b .cat) ∙ places-eight (tierFrom cat) (y .cat) (h .lent .cat .few) (after .cat)
-
   -- what each part takes, the place before it at most so far from the one before
   pub for-treaties : (r .next < 2 ^ 40) × (length register ≡ 63)
       × Each (λ (t : Treaty). t .number < length cs) (placesFrom register)
   for-treaties = (omega (arith, next-small), h .lent .register .size, numbers-inside)
 
   pub for-risk : (i : ℕ) → i ≤ r .next + 1800
-      → (i < 2 ^ 40) × (widthOf Risk ≡ 5) × (length (tierFrom risk) ≤ 8) × (length (tierFrom risk) ≤ length ms)
-      × Each Sound (layersWith (tierFrom risk) ms)
-  for-risk i u =
-      (omega (arith, next-small), refl, h .lent .risk .few, omega (arith, h .lent .risk .few, eight-risk), sound-risk)
+      → (i < 2 ^ 40) × (widthOf Risk ≡ 5) × (length (tierFrom risk) ≤ 8) × (length ms ≡ heldWidth)
+      × Each Sound (layersHeld (tierFrom risk) ms)
+  for-risk i u = (omega (arith, next-small), refl, h .lent .risk .few, sixteen-risk, sound-risk)
 
   pub for-cat : (i j : ℕ) → i ≤ r .next + 1800 → j ≤ i + 200 * length (tierFrom risk)
-      → (j < 2 ^ 40) × (widthOf Cat ≡ 5) × (length (tierFrom cat) ≤ 8) × (length (tierFrom cat) ≤ length ks)
-      × Each Sound (layersWith (tierFrom cat) ks)
-  for-cat i j u v = (
-    omega (arith, next-small, h .lent .risk .few),
-    refl,
-    h .lent .cat .few,
-    omega (arith, h .lent .cat .few, eight-cat),
-    sound-cat,
-  )
+      → (j < 2 ^ 40) × (widthOf Cat ≡ 5) × (length (tierFrom cat) ≤ 8) × (length ks ≡ heldWidth)
+      × Each Sound (layersHeld (tierFrom cat) ks)
+  for-cat i j u v =
+      (omega (arith, next-small, h .lent .risk .few), refl, h .lent .cat .few, sixteen-cat, sound-cat)
 
   pub for-total : (i j k : ℕ) → i ≤ r .next + 1800 → j ≤ i + 200 * length (tierFrom risk)
       → k ≤ j + 200 * length (tierFrom cat) → k < 2 ^ 41
@@ -194,12 +258,12 @@ module _ {register risk cat : List ℕ} {s : Standing} {ns : List ℕ} (h : CanS
       (treaties : Put d₁ (r .next)
       (bytesOf (map treatyShown (map (cededLine cs) (treatiesFrom register)))) d₂ i)
       (risks : Put d₂ i
-      (bytesOf (layersShown riskTemplate 1 (map layerLineOf (layersWith (tierFrom risk) ms)))) d₃ j)
+      (bytesOf (layersShown riskTemplate 1 (map layerLineOf (layersHeld (tierFrom risk) ms)))) d₃ j)
       (cats : Put d₃ j
-      (bytesOf (layersShown catTemplate 1 (map layerLineOf (layersWith (tierFrom cat) ks)))) d₄ k)
+      (bytesOf (layersShown catTemplate 1 (map layerLineOf (layersHeld (tierFrom cat) ks)))) d₄ k)
       (total : Put d₄ k (filled totalTemplate (amountsNumbers (r .total)) (10 ∷ [])) d₅ end) where
     abbrev shown : Statement
-    shown = statementOf (c .treaties) (yearOf c s) es
+    shown = statementOf shares (c .treaties) (yearOf c s) es
 
     all-put : Put d 0 (statementText shown) d₅ end
     all-put =
@@ -207,7 +271,8 @@ module _ {register risk cat : List ℕ} {s : Standing} {ns : List ℕ} (h : CanS
         ap (λ (ls : List TreatyLine). bytesOf (map treatyShown ls))
         (ap (λ (zs : List ℕ). map (cededLine zs) (treatiesFrom register)) (b .cessions)
         ∙ treaty-lines 0 es (treatiesFrom register) (rising (h .lent .register)) (numbers-le (h .lent .register))) in
-        let of-risk = ap (λ (ls : List Layer). bytesOf (layersShown riskTemplate 1 (map layerLineOf ls))) loaded-risk in
+        let of-risk =
+        ap (λ (ls : List Layer). bytesOf (layersShown riskTemplate 1 (map layerLineOf ls))) loaded-risk in
         let of-cat = ap (λ (ls : List Layer). bytesOf (layersShown catTemplate 1 (map layerLineOf ls))) loaded-cat in
         let of-all = ap (λ (a : Amounts). filled totalTemplate (amountsNumbers a) (10 ∷ [])) (b .total) in
         rw (parts shown)
@@ -215,14 +280,26 @@ module _ {register risk cat : List ℕ} {s : Standing} {ns : List ℕ} (h : CanS
         (put-append (rw own at treaties)
         (put-append (rw of-risk at risks) (put-append (rw of-cat at cats) (rw of-all at total)))))
 
+    -- the numbers of each tier are taken apart for the standing
     pub stated : i ≤ r .next + 1800 → j ≤ i + 200 * length (tierFrom risk) → k ≤ j + 200 * length (tierFrom cat)
-        → end ≤ k + 200
-        → StatedAs register risk cat s es d d₅ (record {
+        → end ≤ k + 200 → {a₀ a₁ b₀ b₁ : List ℕ} → a₀ ≡ take 8 ms → b₀ ≡ take 8 ks → a₁ ≡ drop 8 ms → b₁ ≡ drop 8 ks
+        → StatedAs shares register risk cat s es d d₅ (record {
           length = end;
-          standing = record { risk = ms; cat = ks; day = r .day };
+          standing = record { risk = a₀; cat = b₀; day = r .day; «risk_timed» = a₁; «cat_timed» = b₁ };
         })
-    stated u v w x = record {
-      text = all-put;
-      standing = λ z. record { risk = b .risk z; cat = b .cat z; day = b .day z };
-      room = omega (arith, b .room);
-    }
+    stated u v w x ra ca rb cb =
+        let risk-spent = ra ∙ spent-kept risk (h .lent .risk .few) (y .risk) (after .risk) (b .risk) in
+        let cat-spent = ca ∙ spent-kept cat (h .lent .cat .few) (y .cat) (after .cat) (b .cat) in
+        let risk-timed = rb ∙ timed-kept risk (h .lent .risk .few) (y .risk) (after .risk) (b .risk) in
+        let cat-timed = cb ∙ timed-kept cat (h .lent .cat .few) (y .cat) (after .cat) (b .cat) in
+        record {
+          text = all-put;
+          standing = λ z. record {
+            risk = risk-spent z;
+            cat = cat-spent z;
+            day = b .day z;
+            «risk_timed» = risk-timed z;
+            «cat_timed» = cat-timed z;
+          };
+          room = omega (arith, b .room);
+        }

@@ -45,34 +45,35 @@ module _ (t : Statement) (lent after : Standing) (d : List ℕ) where
         in-full same h
 
 -- as the code has it, of events from a standing on
-module _ (register risk cat : List ℕ) (s : Standing) (es : List Event) where
+module _ (shares register risk cat : List ℕ) (s : Standing) (es : List Event) where
   abbrev c : Contracts
   c = contractsFrom register risk cat
 
   abbrev shown : Statement
-  shown = statementOf (c .treaties) (yearOf c s) es
+  shown = statementOf shares (c .treaties) (yearOf c s) es
 
   abbrev after : Standing
-  after = standingOf (yearAfter (c .treaties) (yearOf c s) es) (lastDay (s .day) es)
+  after = standingOf (yearAfter shares (c .treaties) (yearOf c s) es) (lastDay (s .day) es)
 
   -- put into a buffer that surely holds it
-  pub at-once : {d d′ : List ℕ} {x : Stated} → StatedAs register risk cat s es d d′ x
+  pub at-once : {d d′ : List ℕ} {x : Stated} → StatedAs shares register risk cat s es d d′ x
       → {room : ℕ} → linesRoom es + restRoom risk cat ≤ room → room ≤ length d
-      → (r : Ran) → r ≡ writtenRan (x .length) (x .standing) → RanAs (runEvents c s es (length d)) s d d′ r
+      → (r : Ran) → r ≡ writtenRan (x .length) (x .standing) → RanAs (runEvents shares c s es (length d)) s d d′ r
   at-once {d} a k h r e = rw (e, a .standing) (in-full shown s after d (a .text) (omega (arith, a .room)))
 
   -- measured by putting it into no bytes e of the buffer d, which is b then
-  module _ {e e′ b d : List ℕ} {x : Stated} (a : StatedAs register risk cat s es e e′ x) (same : b ≡ d) where
+  module _ {e e′ b d : List ℕ} {x : Stated} (a : StatedAs shares register risk cat s es e e′ x) (same : b ≡ d) where
     size : x .length ≡ length (statementText shown)
     size = omega (arith, a .text .place)
 
     pub not-written : length b < x .length → (r : Ran) → r ≡ ranOf (refused 7 (x .length)) s
-        → RanAs (runEvents c s es (length d)) s d b r
+        → RanAs (runEvents shares c s es (length d)) s d b r
     not-written h r e =
-        subst (λ (f : List ℕ). RanAs (runEvents c s es (length f)) s f b r) same (longer shown s after b size h r e)
+        subst (λ (f : List ℕ). RanAs (runEvents shares c s es (length f)) s f b r) same
+        (longer shown s after b size h r e)
 
-    pub written : x .length ≤ length b → {b′ : List ℕ} {z : Stated} → StatedAs register risk cat s es b b′ z
-        → (r : Ran) → r ≡ writtenRan (x .length) (x .standing) → RanAs (runEvents c s es (length d)) s d b′ r
+    pub written : x .length ≤ length b → {b′ : List ℕ} {z : Stated} → StatedAs shares register risk cat s es b b′ z
+        → (r : Ran) → r ≡ writtenRan (x .length) (x .standing) → RanAs (runEvents shares c s es (length d)) s d b′ r
     written h {b′} w r e =
-        subst (λ (f : List ℕ). RanAs (runEvents c s es (length f)) s f b′ r) same
+        subst (λ (f : List ℕ). RanAs (runEvents shares c s es (length f)) s f b′ r) same
         (rw (e, a .standing) (fits-in shown s after b size h (w .text)))

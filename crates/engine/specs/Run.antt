@@ -1,7 +1,7 @@
--- Document 01, When a call is turned down: what a run gives back, and what its parts take.
+-- Document 01, When a call is turned down, with document 02's Q-4: what a run gives back, and what its parts take.
 -- Assumes nothing.
 use mathlib.Core.Path.{_≡_}
-use mathlib.Core.List.{List}
+use mathlib.Core.List.{List, _++_}
 use Prim.Native.Nat.{ℕ, _+_, _*_, _≤_}
 use lib.ListN.{length}
 use Rattle.lists.specs.Each.{Each}
@@ -35,26 +35,34 @@ abbrev pub RanAs : Outcome Left → Standing → (d d′ : List ℕ) → Ran →
 RanAs o lent d d′ r = (r ≡ ranOf o lent) × (d′ ≡ bufferAfter o d)
 
 -- what a run that is past 6, 8 and 9 comes to, with a buffer of `room` bytes
-abbrev pub runLines : Contracts → Standing → (text : List ℕ) (room : ℕ) → Outcome Left
-runLines c s text room = runThrough c s room (readFrom (c .treaties) 1 (s .day) (formsOf text))
+abbrev pub runLines : (shares : List ℕ) → Contracts → Standing → (text : List ℕ) (room : ℕ) → Outcome Left
+runLines shares c s text room = runThrough shares c s room (readFrom (c .treaties) 1 (s .day) (formsOf text))
 
 -- what a run of events comes to
-abbrev pub runEvents : Contracts → Standing → List Event → (room : ℕ) → Outcome Left
-runEvents c s es room = runThrough c s room (events es)
+abbrev pub runEvents : (shares : List ℕ) → Contracts → Standing → List Event → (room : ℕ) → Outcome Left
+runEvents shares c s es room = runThrough shares c s room (events es)
 
 -- The same of contracts lent as numbers, with the buffer d, which is d′ then: of a text, and of events.
-abbrev pub RanText : (register risk cat : List ℕ) → Standing → (text d d′ : List ℕ) → Ran → Type 0
-RanText register risk cat s text d d′ r =
-    RanAs (runLines (contractsFrom register risk cat) s text (length d)) s d d′ r
+abbrev pub RanText : (shares register risk cat : List ℕ) → Standing → (text d d′ : List ℕ) → Ran → Type 0
+RanText shares register risk cat s text d d′ r =
+    RanAs (runLines shares (contractsFrom register risk cat) s text (length d)) s d d′ r
 
-abbrev pub RanEvents : (register risk cat : List ℕ) → Standing → List Event → (d d′ : List ℕ) → Ran → Type 0
-RanEvents register risk cat s es d d′ r =
-    RanAs (runEvents (contractsFrom register risk cat) s es (length d)) s d d′ r
+abbrev pub RanEvents : (shares register risk cat : List ℕ) → Standing → List Event → (d d′ : List ℕ) → Ran → Type 0
+RanEvents shares register risk cat s es d d′ r =
+    RanAs (runEvents shares (contractsFrom register risk cat) s es (length d)) s d d′ r
 
--- What a statement of events takes: contracts that a table may have, lent as numbers, a standing of them, and events in
--- range, as numbers. They are at most those of a text of 65,536 bytes, three for 13 bytes.
-pub record CanState (register risk cat : List ℕ) (s : Standing) (ns : List ℕ) : Type 0 where
-  pub lent : Lent register risk cat (s .risk) (s .cat)
+-- a standing's numbers of each tier, in one list
+abbrev pub riskHeld : Standing → List ℕ
+riskHeld s = s .risk ++ s .«risk_timed»
+
+abbrev pub catHeld : Standing → List ℕ
+catHeld s = s .cat ++ s .«cat_timed»
+
+-- What a statement of events takes: time shares and contracts that a table may have, lent as numbers, a standing of
+-- them, and events in range, as numbers. They are at most those of a text of 65,536 bytes, three for 13 bytes.
+pub record CanState (shares register risk cat : List ℕ) (s : Standing) (ns : List ℕ) : Type 0 where
+  pub lent : Lent shares register risk cat (riskHeld s) (catHeld s)
+  pub places : (length (s .risk) ≡ 8) × (length (s .cat) ≡ 8)
   pub es : List Event
   pub held : ns ≡ eventsNumbers es
   pub losses : Each (λ (e : Event). Each LossInRange (e .losses)) es
@@ -68,15 +76,16 @@ restRoom risk cat = 200 * (9 + length (tierFrom risk) + length (tierFrom cat) + 
 
 -- The statement of events from a standing on was put into d, which is d′ then; r is its length and the standing after
 -- it.
-pub record StatedAs (register risks cats : List ℕ) (s : Standing) (es : List Event) (d d′ : List ℕ) (r : Stated)
-    : Type 0 where
+pub record StatedAs (shares register risks cats : List ℕ) (s : Standing) (es : List Event) (d d′ : List ℕ)
+    (r : Stated) : Type 0 where
   pub text : Put d 0
       (statementText
-      (statementOf (contractsFrom register risks cats .treaties) (yearOf (contractsFrom register risks cats) s) es))
+      (statementOf shares (contractsFrom register risks cats .treaties)
+      (yearOf (contractsFrom register risks cats) s) es))
       d′ (r .length)
   pub standing : r .standing
       ≡ standingOf
-      (yearAfter (contractsFrom register risks cats .treaties) (yearOf (contractsFrom register risks cats) s) es)
+      (yearAfter shares (contractsFrom register risks cats .treaties) (yearOf (contractsFrom register risks cats) s) es)
       (lastDay (s .day) es)
   pub room : r .length ≤ linesRoom es + restRoom risks cats
 
@@ -85,8 +94,9 @@ pub record RoomFor (risk cat ns : List ℕ) (room : ℕ) : Type 0 where
   pub enough : (es : List Event) → ns ≡ eventsNumbers es → linesRoom es + restRoom risk cat ≤ room
 
 -- a run that is past 6, 8 and 9, of a text of at most n bytes
-pub record CanRun (n : ℕ) (register risk cat : List ℕ) (s : Standing) (text : List ℕ) : Type 0 where
-  pub lent : Lent register risk cat (s .risk) (s .cat)
+pub record CanRun (n : ℕ) (shares register risk cat : List ℕ) (s : Standing) (text : List ℕ) : Type 0 where
+  pub lent : Lent shares register risk cat (riskHeld s) (catHeld s)
+  pub places : (length (s .risk) ≡ 8) × (length (s .cat) ≡ 8)
   pub short : length text ≤ n
 
 -- a place for each number of the events: three for 13 bytes of the text

@@ -5,9 +5,10 @@ ghost use mathlib.Core.Path.{_≡_};
 ghost use lib.ListN.{length};
 ghost use Rattle.answer.specs.Outcome.{refused, bufferAfter};
 ghost use Rattle.events.specs.Event.{Event};
-ghost use Rattle.year.specs.Run.{runOf};
+ghost use Rattle.scale.specs.Scale.{Fair};
+ghost use Rattle.year.specs.Run.{runUnder, runOf};
 ghost use Rattle.losses.specs.Event.{eventsNumbers};
-ghost use Rattle.engine.specs.Run.{ranOf, writtenRan, StatedAs, RanText, RanEvents};
+ghost use Rattle.engine.specs.Run.{ranOf, writtenRan, RanAs, StatedAs, RanText, RanEvents};
 ghost use Rattle.engine.specs.Run.{CanState, RoomFor, CanRun, PlacesFor};
 use answer::Answer;
 use booking::book;
@@ -18,6 +19,7 @@ use losses::treaties;
 use losses::treaties::NUMBERS;
 use programme::contract::Programme;
 use programme::valid;
+use standings::held;
 use standings::terms;
 use statement::lines;
 use statement::print;
@@ -69,6 +71,7 @@ fn written(bytes: usize, after: Standing) -> Ran
 
 // The statement of events from a standing on, put into a buffer as far as that goes.
 fn state(
+    shares: &[u64],
     register: &[u64],
     risk: &[u64],
     cat: &[u64],
@@ -76,42 +79,54 @@ fn state(
     standing: Standing,
     out: &mut [u8],
 ) -> Stated
-    requires { ⌜ CanState (now register) (now risk) (now cat) standing (now events) ⌝ }
+    requires { ⌜ CanState (now shares) (now register) (now risk) (now cat) standing (now events) ⌝ }
     ensures { λ r. ⌜ ((es : List Event) → now (events .entry) ≡ eventsNumbers es
-        → StatedAs (now (register .entry)) (now (risk .entry)) (now (cat .entry)) standing es (now (out .entry))
-        (now (out .exit)) r) ⌝ }
+        → StatedAs (now (shares .entry)) (now (register .entry)) (now (risk .entry)) (now (cat .entry)) standing es
+        (now (out .entry)) (now (out .exit)) r) ⌝ }
 {
-    let mut risk_spent = standing.risk;
-    let mut cat_spent = standing.cat;
+    let risk_spent = standing.risk;
+    let risk_timed = standing.risk_timed;
+    let cat_spent = standing.cat;
+    let cat_timed = standing.cat_timed;
+    let mut risk_held = held::joined(risk_spent, risk_timed);
+    let mut cat_held = held::joined(cat_spent, cat_timed);
     let mut cessions = [0u64; NUMBERS];
     let booked = book::book(
+        shares,
         register,
         risk,
         cat,
         events,
         standing.day,
-        &mut risk_spent,
-        &mut cat_spent,
+        &mut risk_held,
+        &mut cat_held,
         &mut cessions,
         out,
     );
     let first = lines::put_treaties(out, booked.next, register, &cessions);
-    let second = lines::put_layers(out, first, Kind::Risk, risk, &risk_spent);
-    let third = lines::put_layers(out, second, Kind::Cat, cat, &cat_spent);
+    let second = lines::put_layers(out, first, Kind::Risk, risk, &risk_held);
+    let third = lines::put_layers(out, second, Kind::Cat, cat, &cat_held);
     let total = booked.total;
     let length = lines::put_total(out, third, total);
+    let risk_after = held::spent(risk_held);
+    let cat_after = held::spent(cat_held);
+    let risk_charged = held::timed(risk_held);
+    let cat_charged = held::timed(cat_held);
     Stated {
         length,
         standing: Standing {
-            risk: risk_spent,
-            cat: cat_spent,
+            risk: risk_after,
+            cat: cat_after,
             day: booked.day,
+            risk_timed: risk_charged,
+            cat_timed: cat_charged,
         },
     }
 }
 
 // The statement of events: measured, and written if it fits.
 fn write_measured(
+    shares: &[u64],
     register: &[u64],
     risk: &[u64],
     cat: &[u64],
@@ -119,24 +134,33 @@ fn write_measured(
     standing: Standing,
     buffer: &mut [u8],
 ) -> Ran
-    requires { ⌜ CanState (now register) (now risk) (now cat) standing (now events) ⌝ }
+    requires { ⌜ CanState (now shares) (now register) (now risk) (now cat) standing (now events) ⌝ }
     ensures { λ r. ⌜ ((es : List Event) → now (events .entry) ≡ eventsNumbers es
-        → RanEvents (now (register .entry)) (now (risk .entry)) (now (cat .entry)) standing es
+        → RanEvents (now (shares .entry)) (now (register .entry)) (now (risk .entry)) (now (cat .entry)) standing es
         (now (buffer .entry)) (now (buffer .exit)) r) ⌝ }
 {
-    let measured = state(register, risk, cat, events, standing, &mut buffer[..0]);
+    let measured = state(
+        shares,
+        register,
+        risk,
+        cat,
+        events,
+        standing,
+        &mut buffer[..0],
+    );
     let needed = measured.length;
     let after = measured.standing;
     if buffer.len() < needed {
         return refused(answer::BUFFER_TOO_SHORT, needed as u64, standing);
     }
-    state(register, risk, cat, events, standing, buffer);
+    state(shares, register, risk, cat, events, standing, buffer);
     written(needed, after)
 }
 
 // The same, where the statement has no more than `room` bytes whatever its numbers are: if these surely fit, it need
 // not be measured first.
 fn write(
+    shares: &[u64],
     register: &[u64],
     risk: &[u64],
     cat: &[u64],
@@ -145,22 +169,23 @@ fn write(
     standing: Standing,
     buffer: &mut [u8],
 ) -> Ran
-    requires { ⌜ CanState (now register) (now risk) (now cat) standing (now events)
+    requires { ⌜ CanState (now shares) (now register) (now risk) (now cat) standing (now events)
         × RoomFor (now risk) (now cat) (now events) room ⌝ }
     ensures { λ r. ⌜ ((es : List Event) → now (events .entry) ≡ eventsNumbers es
-        → RanEvents (now (register .entry)) (now (risk .entry)) (now (cat .entry)) standing es
+        → RanEvents (now (shares .entry)) (now (register .entry)) (now (risk .entry)) (now (cat .entry)) standing es
         (now (buffer .entry)) (now (buffer .exit)) r) ⌝ }
 {
     if room <= buffer.len() {
-        let stated = state(register, risk, cat, events, standing, buffer);
+        let stated = state(shares, register, risk, cat, events, standing, buffer);
         let after = stated.standing;
         return written(stated.length, after);
     }
-    write_measured(register, risk, cat, events, standing, buffer)
+    write_measured(shares, register, risk, cat, events, standing, buffer)
 }
 
 // A run that is past 6, 8 and 9, with places for the events' numbers.
 fn through(
+    shares: &[u64],
     register: &[u64],
     risk: &[u64],
     cat: &[u64],
@@ -169,10 +194,10 @@ fn through(
     buffer: &mut [u8],
     kept: &mut [u64],
 ) -> Ran
-    requires { ⌜ CanRun 65536 (now register) (now risk) (now cat) standing (now events)
+    requires { ⌜ CanRun 65536 (now shares) (now register) (now risk) (now cat) standing (now events)
         × PlacesFor (now events) (now kept) ⌝ }
-    ensures { λ r. ⌜ RanText (now (register .entry)) (now (risk .entry)) (now (cat .entry)) standing
-        (now (events .entry)) (now (buffer .entry)) (now (buffer .exit)) r ⌝ }
+    ensures { λ r. ⌜ RanText (now (shares .entry)) (now (register .entry)) (now (risk .entry)) (now (cat .entry))
+        standing (now (events .entry)) (now (buffer .entry)) (now (buffer .exit)) r ⌝ }
 {
     let found = reading::read(events, register, standing.day, kept);
     let refusal = found.refusal;
@@ -182,12 +207,22 @@ fn through(
     let end = found.end;
     let rest = NUMBERS + numbers::count(risk) + numbers::count(cat) + 1;
     let room = lines::LONGEST_IDLE * found.idle + print::LONGEST_LINE * (found.entered + rest);
-    write(register, risk, cat, &kept[..end], room, standing, buffer)
+    write(
+        shares,
+        register,
+        risk,
+        cat,
+        &kept[..end],
+        room,
+        standing,
+        buffer,
+    )
 }
 
 // The same with places for the numbers of a text of at most 1,024 bytes, so that a short text does not pay for a long
 // one.
 fn short(
+    shares: &[u64],
     register: &[u64],
     risk: &[u64],
     cat: &[u64],
@@ -195,16 +230,26 @@ fn short(
     events: &[u8],
     buffer: &mut [u8],
 ) -> Ran
-    requires { ⌜ CanRun 1024 (now register) (now risk) (now cat) standing (now events) ⌝ }
-    ensures { λ r. ⌜ RanText (now (register .entry)) (now (risk .entry)) (now (cat .entry)) standing
-        (now (events .entry)) (now (buffer .entry)) (now (buffer .exit)) r ⌝ }
+    requires { ⌜ CanRun 1024 (now shares) (now register) (now risk) (now cat) standing (now events) ⌝ }
+    ensures { λ r. ⌜ RanText (now (shares .entry)) (now (register .entry)) (now (risk .entry)) (now (cat .entry))
+        standing (now (events .entry)) (now (buffer .entry)) (now (buffer .exit)) r ⌝ }
 {
     let mut kept = [0u64; kept::LOSS * SHORT / LOSS_BYTES + 1];
-    through(register, risk, cat, standing, events, buffer, &mut kept)
+    through(
+        shares,
+        register,
+        risk,
+        cat,
+        standing,
+        events,
+        buffer,
+        &mut kept,
+    )
 }
 
 // For one of at most 8,192 bytes.
 fn medium(
+    shares: &[u64],
     register: &[u64],
     risk: &[u64],
     cat: &[u64],
@@ -212,16 +257,26 @@ fn medium(
     events: &[u8],
     buffer: &mut [u8],
 ) -> Ran
-    requires { ⌜ CanRun 8192 (now register) (now risk) (now cat) standing (now events) ⌝ }
-    ensures { λ r. ⌜ RanText (now (register .entry)) (now (risk .entry)) (now (cat .entry)) standing
-        (now (events .entry)) (now (buffer .entry)) (now (buffer .exit)) r ⌝ }
+    requires { ⌜ CanRun 8192 (now shares) (now register) (now risk) (now cat) standing (now events) ⌝ }
+    ensures { λ r. ⌜ RanText (now (shares .entry)) (now (register .entry)) (now (risk .entry)) (now (cat .entry))
+        standing (now (events .entry)) (now (buffer .entry)) (now (buffer .exit)) r ⌝ }
 {
     let mut kept = [0u64; kept::LOSS * MEDIUM / LOSS_BYTES + 1];
-    through(register, risk, cat, standing, events, buffer, &mut kept)
+    through(
+        shares,
+        register,
+        risk,
+        cat,
+        standing,
+        events,
+        buffer,
+        &mut kept,
+    )
 }
 
 // For one of at most 65,536 bytes.
 fn long(
+    shares: &[u64],
     register: &[u64],
     risk: &[u64],
     cat: &[u64],
@@ -229,12 +284,21 @@ fn long(
     events: &[u8],
     buffer: &mut [u8],
 ) -> Ran
-    requires { ⌜ CanRun 65536 (now register) (now risk) (now cat) standing (now events) ⌝ }
-    ensures { λ r. ⌜ RanText (now (register .entry)) (now (risk .entry)) (now (cat .entry)) standing
-        (now (events .entry)) (now (buffer .entry)) (now (buffer .exit)) r ⌝ }
+    requires { ⌜ CanRun 65536 (now shares) (now register) (now risk) (now cat) standing (now events) ⌝ }
+    ensures { λ r. ⌜ RanText (now (shares .entry)) (now (register .entry)) (now (risk .entry)) (now (cat .entry))
+        standing (now (events .entry)) (now (buffer .entry)) (now (buffer .exit)) r ⌝ }
 {
     let mut kept = [0u64; kept::LOSS * rule::EVENTS_BYTES / LOSS_BYTES + 1];
-    through(register, risk, cat, standing, events, buffer, &mut kept)
+    through(
+        shares,
+        register,
+        risk,
+        cat,
+        standing,
+        events,
+        buffer,
+        &mut kept,
+    )
 }
 
 // The same with places by the text's length. A buffer shorter than every statement is as good as none: the function
@@ -242,6 +306,7 @@ fn long(
 // into a function that calls itself, and no function that calls itself into another. So `short`, `medium` and `long`
 // each keep a frame of their own, and a short text does not take the stack of a long one.
 fn placed(
+    shares: &[u64],
     register: &[u64],
     risk: &[u64],
     cat: &[u64],
@@ -249,32 +314,45 @@ fn placed(
     events: &[u8],
     buffer: &mut [u8],
 ) -> Ran
-    requires { ⌜ CanRun 65536 (now register) (now risk) (now cat) standing (now events) ⌝ }
-    ensures { λ r. ⌜ RanText (now (register .entry)) (now (risk .entry)) (now (cat .entry)) standing
-        (now (events .entry)) (now (buffer .entry)) (now (buffer .exit)) r ⌝ }
+    requires { ⌜ CanRun 65536 (now shares) (now register) (now risk) (now cat) standing (now events) ⌝ }
+    ensures { λ r. ⌜ RanText (now (shares .entry)) (now (register .entry)) (now (risk .entry)) (now (cat .entry))
+        standing (now (events .entry)) (now (buffer .entry)) (now (buffer .exit)) r ⌝ }
 {
     let room = buffer.len();
     if 0 < room {
         if room < print::SHORTEST {
-            return placed(register, risk, cat, standing, events, &mut buffer[..0]);
+            return placed(
+                shares,
+                register,
+                risk,
+                cat,
+                standing,
+                events,
+                &mut buffer[..0],
+            );
         }
     }
     if events.len() <= SHORT {
-        return short(register, risk, cat, standing, events, buffer);
+        return short(shares, register, risk, cat, standing, events, buffer);
     }
     if events.len() <= MEDIUM {
-        return medium(register, risk, cat, standing, events, buffer);
+        return medium(shares, register, risk, cat, standing, events, buffer);
     }
-    long(register, risk, cat, standing, events, buffer)
+    long(shares, register, risk, cat, standing, events, buffer)
 }
 
-// Runs an events text under a programme, from a standing on. The contracts are laid out as numbers once, to be lent.
-pub fn run(programme: Programme, standing: Standing, events: &[u8], buffer: &mut [u8]) -> Ran
-    ensures { λ r. ⌜ (r
-        ≡ ranOf (runOf programme standing (now (events .entry)) (length (now (buffer .entry)))) standing)
-        × (now (buffer .exit)
-        ≡ bufferAfter (runOf programme standing (now (events .entry)) (length (now (buffer .entry))))
-        (now (buffer .entry))) ⌝ }
+// Runs an events text under a programme, from a standing on, with premiums by lent time shares. The contracts are laid
+// out as numbers once, to be lent.
+fn run_under(
+    shares: &[u64],
+    programme: Programme,
+    standing: Standing,
+    events: &[u8],
+    buffer: &mut [u8],
+) -> Ran
+    requires { ⌜ Fair (now shares) ⌝ }
+    ensures { λ r. ⌜ RanAs (runUnder (now (shares .entry)) programme standing (now (events .entry))
+        (length (now (buffer .entry)))) standing (now (buffer .entry)) (now (buffer .exit)) r ⌝ }
 {
     if valid::holds(programme) {} else {
         return refused(valid::NOT_A_PROGRAMME, 0, standing);
@@ -293,6 +371,7 @@ pub fn run(programme: Programme, standing: Standing, events: &[u8], buffer: &mut
     let risk_end = numbers::WIDTH * programme.risk.count;
     let cat_end = numbers::WIDTH * programme.cat.count;
     placed(
+        shares,
         &register,
         &risk[..risk_end],
         &cat[..cat_end],
@@ -300,4 +379,16 @@ pub fn run(programme: Programme, standing: Standing, events: &[u8], buffer: &mut
         events,
         buffer,
     )
+}
+
+// The same with premiums by the built-in time shares.
+pub fn run(programme: Programme, standing: Standing, events: &[u8], buffer: &mut [u8]) -> Ran
+    ensures { λ r. ⌜ (r
+        ≡ ranOf (runOf programme standing (now (events .entry)) (length (now (buffer .entry)))) standing)
+        × (now (buffer .exit)
+        ≡ bufferAfter (runOf programme standing (now (events .entry)) (length (now (buffer .entry))))
+        (now (buffer .entry))) ⌝ }
+{
+    let shares = scale::built_in();
+    run_under(&shares, programme, standing, events, buffer)
 }

@@ -1,6 +1,6 @@
 -- Document 02, Q-2: "With equal rates every statement amount is the former one." The former premium is document 01's,
 -- which has one rate q for all reinstatements of a layer. That of a statement's amounts only premiums look at rates is
--- in RatesApart.
+-- in PremiumApart.
 -- Assumes nothing.
 use mathlib.Core.Path.{_≡_, refl, ap, _∙_}
 use mathlib.Core.List.{List, [], _∷_}

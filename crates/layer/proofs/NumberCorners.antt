@@ -12,8 +12,8 @@ use Rattle.layer.specs.Numbers.{termsNumbers, tierNumbers, termsFrom, ti
 abbrev numbers : ℕ → List ℕ
 numbers n =
     map (λ (k : ℕ). n + k)
-    (0 ∷ 1 ∷ 2 ∷ 3 ∷ 4 ∷ 5
-    ∷ 6 ∷ 7 ∷ 8 ∷ 9 ∷ 10 ∷ 11 ∷ 12 ∷ 13 ∷ 14 ∷ 15 ∷ 16 ∷ 17 ∷ 18 ∷ 19 ∷ 20 ∷ 21 ∷ 22 ∷ 23 ∷ 24 ∷ 25 ∷ [])
+    (0 ∷ 1 ∷ 2 ∷ 3 ∷ 4 ∷ 5 ∷ 6
+    ∷ 7 ∷ 8 ∷ 9 ∷ 10 ∷ 11 ∷ 12 ∷ 13 ∷ 14 ∷ 15 ∷ 16 ∷ 17 ∷ 18 ∷ 19 ∷ 20 ∷ 21 ∷ 22 ∷ 23 ∷ 24 ∷ 25 ∷ 26 ∷ [])
 
 abbrev terms : ℕ → Terms
 terms n = record {
@@ -25,7 +25,8 @@ terms n = record {
   placed = n + 5;
   rates =
       map (λ (k : ℕ). n + k)
-      (6 ∷ 7 ∷ 8 ∷ 9 ∷ 10 ∷ 11 ∷ 12 ∷ 13 ∷ 14 ∷ 15 ∷ 16 ∷ 17 ∷ 18 ∷ 19 ∷ 20 ∷ 21 ∷ 22 ∷ 23 ∷ 24 ∷ 25 ∷ []);
+      (7 ∷ 8 ∷ 9 ∷ 10 ∷ 11 ∷ 12 ∷ 13 ∷ 14 ∷ 15 ∷ 16 ∷ 17 ∷ 18 ∷ 19 ∷ 20 ∷ 21 ∷ 22 ∷ 23 ∷ 24 ∷ 25 ∷ 26 ∷ []);
+  time = n + 6;
 }
 
 pub record NumberCorners : Type 0 where
@@ -36,7 +37,7 @@ pub record NumberCorners : Type 0 where
   pub twenty-rates : ratePlaces (terms 11 .rates) ≡ terms 11 .rates
   pub one-too-many : ratePlaces (terms 11 .rates ++ (99 ∷ [])) ≡ terms 11 .rates
   -- a line's terms, K 2: two rates and eighteen unused
-  pub of-a-line : termsOf 1 2 3 2 5 (7 ∷ 8 ∷ []) 6 ≡ record {
+  pub of-a-line : termsOf 1 2 3 2 5 (7 ∷ 8 ∷ []) 6 9 ≡ record {
     attachment = 1;
     limit = 2;
     deductible = 3;
@@ -44,6 +45,7 @@ pub record NumberCorners : Type 0 where
     premium = 5;
     placed = 6;
     rates = 7 ∷ 8 ∷ 0 ∷ 0 ∷ 0 ∷ 0 ∷ 0 ∷ 0 ∷ 0 ∷ 0 ∷ 0 ∷ 0 ∷ 0 ∷ 0 ∷ 0 ∷ 0 ∷ 0 ∷ 0 ∷ 0 ∷ 0 ∷ [];
+    time = 9;
   }
   -- one layer's numbers, to and fro
   pub one-laid : termsNumbers (terms 11) ≡ numbers 11

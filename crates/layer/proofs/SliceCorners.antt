@@ -9,19 +9,19 @@ use Rattle.layer.specs.Layer.{termsOf, placedOf, sliceAfter, ratedOf, pr
 
 -- wholly placed, a limit of 100 and a premium of 1,000: the first reinstatement is free, the second at 100%
 abbrev secondOnly : Terms
-secondOnly = termsOf 0 100 0 2 1000 (0 ∷ 10000 ∷ []) 10000
+secondOnly = termsOf 0 100 0 2 1000 (0 ∷ 10000 ∷ []) 10000 0
 
 -- the other way round
 abbrev firstOnly : Terms
-firstOnly = termsOf 0 100 0 2 1000 (10000 ∷ 0 ∷ []) 10000
+firstOnly = termsOf 0 100 0 2 1000 (10000 ∷ 0 ∷ []) 10000 0
 
 -- a third placed, at three rates far apart
 abbrev thirds : Terms
-thirds = termsOf 0 100 0 3 999 (1 ∷ 20000 ∷ 7 ∷ []) 3333
+thirds = termsOf 0 100 0 3 999 (1 ∷ 20000 ∷ 7 ∷ []) 3333 0
 
 -- half placed, above a deductible of 30
 abbrev deducted : Terms
-deducted = termsOf 50 100 30 2 999 (2500 ∷ 7500 ∷ []) 5000
+deducted = termsOf 50 100 30 2 999 (2500 ∷ 7500 ∷ []) 5000 0
 
 -- twenty rates, from 20,000 down to 1,000
 abbrev falling : Terms
@@ -29,7 +29,7 @@ falling =
     termsOf 0 7 0 20 1234
     (20000 ∷ 19000 ∷ 18000 ∷ 17000 ∷ 16000 ∷ 15000 ∷ 14000 ∷ 13000 ∷ 12000 ∷ 11000 ∷ 10000 ∷ 9000 ∷ 8000 ∷ 7000 ∷ 6000
     ∷ 5000 ∷ 4000 ∷ 3000 ∷ 2000 ∷ 1000 ∷ [])
-    7201
+    7201 0
 
 pub record SliceCorners : Type 0 where
   -- none of the first slice; of the second 1, 50 and all of it; no third one
@@ -39,7 +39,7 @@ pub record SliceCorners : Type 0 where
   pub first-only : map (premiumOf firstOnly) (50 ∷ 100 ∷ 101 ∷ 150 ∷ 200 ∷ 300 ∷ [])
       ≡ 500 ∷ 1000 ∷ 1000 ∷ 1000 ∷ 1000 ∷ 1000 ∷ []
   -- losses in turn: used is 100, 150, 250 and, at the cap, 300, the year's premium 0, 500, 1,000 and 1,000
-  pub second-only-in-turn : chargesOf (layerOf secondOnly 0) (100 ∷ 50 ∷ 100 ∷ 100 ∷ []) ≡ 0 ∷ 500 ∷ 500 ∷ 0 ∷ []
+  pub second-only-in-turn : chargesOf (layerOf secondOnly 0 0) (100 ∷ 50 ∷ 100 ∷ 100 ∷ []) ≡ 0 ∷ 500 ∷ 500 ∷ 0 ∷ []
   -- 3,333 bp of 99, 100, 101, 200, 299 and 300 are 32.9967, 33.33, 33.6633, 66.66, 99.6567 and 99.99, to the nearest
   -- cent 33, 33, 34, 67, 100 and 100. Of used 101 the slices are 33, 34 − 33 and 0, of 299 they are 33, 34 and 33, and
   -- the same of all above.
@@ -62,7 +62,7 @@ pub record SliceCorners : Type 0 where
   -- 98.65 are recovered, to 2 × 1,000 less. Times 1,234, over 70,000, that is 16,183.03, 18,651.03 and 18,615.77.
   pub twenty-rates : map (premiumOf falling) (91 ∷ 137 ∷ 140 ∷ 147 ∷ []) ≡ 16183 ∷ 18616 ∷ 18651 ∷ 18651 ∷ []
   -- a rate past the last reinstatement is not looked at, nor a slice there: half the premium of one limit, not of two
-  pub unused-rate : map (premiumOf (termsOf 0 100 0 1 1000 (5000 ∷ 20000 ∷ []) 10000)) (100 ∷ 101 ∷ 200 ∷ [])
+  pub unused-rate : map (premiumOf (termsOf 0 100 0 1 1000 (5000 ∷ 20000 ∷ []) 10000 0)) (100 ∷ 101 ∷ 200 ∷ [])
       ≡ 500 ∷ 500 ∷ 500 ∷ []
 
 pub slice-corners : SliceCorners

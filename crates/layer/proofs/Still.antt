@@ -11,11 +11,11 @@ use Rattle.lists.proofs.Sums.{sum-append}
 use Rattle.layer.specs.declared.terms.Terms.{Terms}
 use Rattle.layer.specs.declared.record.Layer.{Layer}
 use Rattle.layer.specs.Layer.{broughtBy, capOf}
-use Rattle.layer.specs.Tier.{layersThrough, recoveriesThrough, chargesThrough}
+use Rattle.layer.specs.Tier.{layersThrough, recoveriesThrough, duesThrough}
 use Rattle.layer.specs.Ranges.{Sound, Rising}
-use Rattle.layer.proofs.Through.{afterEach, recoveredEach, chargedEach}
-use Rattle.layer.proofs.Through.{layers-each, recoveries-each, charges-each}
-use Rattle.layer.proofs.Through.{after-nothing, after-cap, recovered-still, charged-still}
+use Rattle.layer.proofs.Through.{afterEach, onEach, recoveredEach, dueEach}
+use Rattle.layer.proofs.Through.{layers-each, recoveries-each, dues-each}
+use Rattle.layer.proofs.Through.{after-nothing, after-cap, recovered-still, due-still, on-still}
 
 -- no amount is above a
 abbrev UpTo : ℕ → List ℕ → Type 0
@@ -52,39 +52,43 @@ module _ (xs : List ℕ) where
   still-full [] s f = tt
   still-full (y ∷ ys) s f = (after-cap xs y (s .0) (f .0), still-full ys (s .1) (f .1))
 
-  layers-same : (ls : List Layer) → Still ls → map (afterEach xs) ls ≡ ls
-  layers-same [] u = refl
-  layers-same (y ∷ ys) u = λ i. u .0 i ∷ layers-same ys (u .1) i
+module _ (share : ℕ) (fair : share ≤ 10000) (xs : List ℕ) where
+  layers-same : (ls : List Layer) → Each Sound ls → Still xs ls → map (onEach share xs) ls ≡ ls
+  layers-same [] s u = refl
+  layers-same (y ∷ ys) s u =
+      let first = on-still xs y (s .0) (u .0) share fair in
+      let rest = layers-same ys (s .1) (u .1) in
+      λ i. first i ∷ rest i
 
-  recovers-nothing : (ls : List Layer) → Each Sound ls → Still ls → sumOf (recoveredEach xs) ls ≡ 0
+  recovers-nothing : (ls : List Layer) → Each Sound ls → Still xs ls → sumOf (recoveredEach xs) ls ≡ 0
   recovers-nothing [] s u = refl
   recovers-nothing (y ∷ ys) s u =
       omega (arith, recovered-still xs y (s .0) (u .0), recovers-nothing ys (s .1) (u .1))
 
-  charges-nothing : (ls : List Layer) → Each Sound ls → Still ls → sumOf (chargedEach xs) ls ≡ 0
-  charges-nothing [] s u = refl
-  charges-nothing (y ∷ ys) s u =
-      omega (arith, charged-still xs y (s .0) (u .0), charges-nothing ys (s .1) (u .1))
+  nothing-due : (ls : List Layer) → Each Sound ls → Still xs ls → sumOf (dueEach share xs) ls ≡ 0
+  nothing-due [] s u = refl
+  nothing-due (y ∷ ys) s u =
+      omega (arith, due-still xs y (s .0) (u .0) share fair, nothing-due ys (s .1) (u .1))
 
-  module _ (ls : List Layer) (s : Each Sound ls) (u : Still ls) where
-    pub layers-still : layersThrough xs ls ≡ ls
-    layers-still = layers-each xs ls ∙ layers-same ls u
+  module _ (ls : List Layer) (s : Each Sound ls) (u : Still xs ls) where
+    pub layers-still : layersThrough share xs ls ≡ ls
+    layers-still = layers-each share xs ls ∙ layers-same ls s u
 
     pub recoveries-still : recoveriesThrough xs ls ≡ 0
     recoveries-still = recoveries-each xs ls ∙ recovers-nothing ls s u
 
-    pub charges-still : chargesThrough xs ls ≡ 0
-    charges-still = charges-each xs ls ∙ charges-nothing ls s u
+    pub dues-still : duesThrough share xs ls ≡ 0
+    dues-still = dues-each share xs ls ∙ nothing-due ls s u
 
   -- such layers before and after others: the others alone move, recover and charge
-  module _ (front ls rest : List Layer) (s : Each Sound front) (u : Still front) (s′ : Each Sound rest)
-      (u′ : Still rest) where
-    pub layers-between : layersThrough xs (front ++ (ls ++ rest)) ≡ front ++ (layersThrough xs ls ++ rest)
+  module _ (front ls rest : List Layer) (s : Each Sound front) (u : Still xs front) (s′ : Each Sound rest)
+      (u′ : Still xs rest) where
+    pub layers-between : layersThrough share xs (front ++ (ls ++ rest)) ≡ front ++ (layersThrough share xs ls ++ rest)
     layers-between =
-        layers-each xs (front ++ (ls ++ rest))
-        ∙ map-append (afterEach xs) front (ls ++ rest)
-        ∙ (λ i. layers-same front u i ++ map-append (afterEach xs) ls rest i)
-        ∙ (λ i. front ++ (sym (layers-each xs ls) i ++ layers-same rest u′ i))
+        layers-each share xs (front ++ (ls ++ rest))
+        ∙ map-append (onEach share xs) front (ls ++ rest)
+        ∙ (λ i. layers-same front s u i ++ map-append (onEach share xs) ls rest i)
+        ∙ (λ i. front ++ (sym (layers-each share xs ls) i ++ layers-same rest s′ u′ i))
 
     between : (f : Layer → ℕ) → sumOf f front ≡ 0 → sumOf f rest ≡ 0 → sumOf f (front ++ (ls ++ rest)) ≡ sumOf f ls
     between f z z′ = omega (arith, sum-append f front (ls ++ rest), sum-append f ls rest, z, z′)
@@ -95,8 +99,8 @@ module _ (xs : List ℕ) where
         ∙ between (recoveredEach xs) (recovers-nothing front s u) (recovers-nothing rest s′ u′)
         ∙ sym (recoveries-each xs ls)
 
-    pub charges-between : chargesThrough xs (front ++ (ls ++ rest)) ≡ chargesThrough xs ls
-    charges-between =
-        charges-each xs (front ++ (ls ++ rest))
-        ∙ between (chargedEach xs) (charges-nothing front s u) (charges-nothing rest s′ u′)
-        ∙ sym (charges-each xs ls)
+    pub dues-between : duesThrough share xs (front ++ (ls ++ rest)) ≡ duesThrough share xs ls
+    dues-between =
+        dues-each share xs (front ++ (ls ++ rest))
+        ∙ between (dueEach share xs) (nothing-due front s u) (nothing-due rest s′ u′)
+        ∙ sym (dues-each share xs ls)

@@ -11,6 +11,7 @@ use Rattle.lists.specs.Each.{Each}
 use Rattle.lists.specs.Rows.{rows}
 use Rattle.lists.proofs.Rows.{rows-length, row-at, row-more}
 use Rattle.layer.specs.declared.amount.Whole.{Whole}
+use Rattle.layer.specs.declared.amount.Placed.{Placed}
 use Rattle.layer.specs.declared.terms.Terms.{Terms}
 use Rattle.layer.specs.Layer.{ratePlaces, layerOf}
 use Rattle.layer.specs.Numbers.{termsWidth, termsNumbers, tierNumbers, termsFrom, tierFrom}
@@ -42,15 +43,16 @@ module _ (ns : List ℕ) (i : ℕ) (h : i < length (tierFrom ns)) where
       ∙ ap (λ (k : ℕ). getD ns k 0) (add-zero (termsWidth * i)))
       ∙ ap (λ (t : Terms). t .attachment) terms-at
 
-  -- with its spent amount they make its record
-  pub record-at : (ms : List ℕ) (t : Terms) (w : Whole)
+  -- with its spent amount and its timed premium they make its record
+  pub record-at : (ms : List ℕ) (t : Terms) (w : Whole) (v : Placed)
       → t ≡ termsFrom (take (termsWidth * i + termsWidth - termsWidth * i) (drop (termsWidth * i) ns))
-      → w .0 ≡ getD ms i 0
-      → record { terms = t; spent = w } ≡ layerOf (getD (tierFrom ns) i (termsFrom [])) (getD ms i 0)
-  record-at ms t w a b =
+      → w .0 ≡ getD ms i 0 → v .0 ≡ getD ms (8 + i) 0
+      → record { terms = t; spent = w; timed = v }
+      ≡ layerOf (getD (tierFrom ns) i (termsFrom [])) (getD ms i 0) (getD ms (8 + i) 0)
+  record-at ms t w v a b c =
       let wide : termsWidth * i + termsWidth - termsWidth * i ≡ termsWidth = omega arith in
       let terms = a ∙ ap (λ (k : ℕ). termsFrom (take k (drop (termsWidth * i) ns))) wide ∙ terms-at in
-      λ j. layerOf (terms j) (b j)
+      λ j. layerOf (terms j) (b j) (c j)
 
 -- the numbers of one layer more
 pub numbers-more : (ts : List Terms) (t : Terms) → tierNumbers ts ++ termsNumbers t ≡ tierNumbers (ts ++ (t ∷ []))
@@ -73,14 +75,15 @@ withRates t qs = record {
   premium = t .premium;
   placed = t .placed;
   rates = qs;
+  time = t .time;
 }
 
 -- one layer's numbers as terms, from its rates among them
-pub terms-read : (ns qs : List ℕ) → length ns ≡ termsWidth → qs ≡ take 20 (drop 6 ns)
+pub terms-read : (ns qs : List ℕ) → length ns ≡ termsWidth → qs ≡ take 20 (drop 7 ns)
     → withRates (termsFrom ns) qs ≡ termsFrom ns
 terms-read ns qs wide e =
-    let own = take 20 (drop 6 ns) in
-    let twenty : length own ≡ 20 = length-take-le 20 (drop 6 ns) (omega (arith, length-drop 6 ns)) in
+    let own = take 20 (drop 7 ns) in
+    let twenty : length own ≡ 20 = length-take-le 20 (drop 7 ns) (omega (arith, length-drop 7 ns)) in
     ap (withRates (termsFrom ns)) (e ∙ sym (places-full own twenty))
 
 -- each has twenty rates

@@ -11,13 +11,13 @@ use Rattle.lists.proofs.Bounds.{sum-le-sum, sum-le}
 use Rattle.layer.specs.declared.record.Layer.{Layer}
 use Rattle.layer.specs.declared.tier.Tier.{Tier}
 use Rattle.layer.specs.Layer.{broughtBy, recoveryBy}
-use Rattle.layer.specs.Tier.{layersAfter, lossesBy, recoveriesBy, layersOf, tierAfter}
-use Rattle.layer.specs.Tier.{layersThrough, recoveriesThrough, chargesThrough, leftThrough}
+use Rattle.layer.specs.Tier.{layersAfter, layersOn, lossesBy, recoveriesBy, layersOf, tierAfter}
+use Rattle.layer.specs.Tier.{layersThrough, recoveriesThrough, duesThrough, leftThrough}
 use Rattle.layer.specs.Ranges.{Sound, Rising}
 use Rattle.layer.proofs.Recoveries.{recovery-le}
-use Rattle.layer.proofs.Records.{sound-after}
-use Rattle.layer.proofs.Through.{afterEach, recoveredEach, recovered-each-le, chargedEach, charged-each-le}
-use Rattle.layer.proofs.Through.{layers-each, recoveries-each, charges-each}
+use Rattle.layer.proofs.Records.{sound-after, sound-on}
+use Rattle.layer.proofs.Through.{onEach, recoveredEach, recovered-each-le, dueEach, due-total-le}
+use Rattle.layer.proofs.Through.{layers-each, recoveries-each, dues-each}
 
 -- for bands that rise from e on, the losses that a subject brings add to at most what lies above e
 pub losses-le : (x e : ℕ) (ys : List Layer) → Rising e ys → lossesBy x ys ≤ x - e
@@ -40,16 +40,20 @@ recoveries-through-le xs ls s =
     rw (recoveries-each xs ls)
     (sum-le Sound (recoveredEach xs) 210000000000000 (λ y h. omega (arith, recovered-each-le xs y h, h .terms)) ls s)
 
-pub charges-through-le : (xs : List ℕ) (ls : List Layer) → Each Sound ls
-    → chargesThrough xs ls ≤ length ls * 40000000000000
-charges-through-le xs ls s =
-    rw (charges-each xs ls)
-    (sum-le Sound (chargedEach xs) 40000000000000 (λ y h. omega (arith, charged-each-le xs y h, h .terms)) ls s)
+pub dues-through-le : (share : ℕ) → share ≤ 10000 → (xs : List ℕ) (ls : List Layer) → Each Sound ls
+    → duesThrough share xs ls ≤ length ls * 40000000000000
+dues-through-le share f xs ls s =
+    rw (dues-each share xs ls)
+    (sum-le Sound (dueEach share xs) 40000000000000 (λ y h. omega (arith, due-total-le xs y h share f, h .terms)) ls s)
 
 -- sound layers stay sound, and their bands rise as before
 pub each-after : (x : ℕ) (ys : List Layer) → Each Sound ys → Each Sound (layersAfter x ys)
 each-after x [] s = tt
 each-after x (y ∷ ys) s = (sound-after (broughtBy (y .terms) x) y (s .0), each-after x ys (s .1))
+
+pub each-on : (share : ℕ) → share ≤ 10000 → (x : ℕ) (ys : List Layer) → Each Sound ys → Each Sound (layersOn share x ys)
+each-on share f x [] s = tt
+each-on share f x (y ∷ ys) s = (sound-on share f (broughtBy (y .terms) x) y (s .0), each-on share f x ys (s .1))
 
 pub rising-after : (x e : ℕ) (ys : List Layer) → Rising e ys → Rising e (layersAfter x ys)
 rising-after x e [] r = tt
@@ -73,5 +77,7 @@ first-mapped f (suc n) [] = refl
 first-mapped f (suc n) (y ∷ ys) = ap (λ zs. f y ∷ zs) (first-mapped f n ys)
 
 -- the layers of the tier after amounts are its layers, each brought up to date
-pub layers-through : (xs : List ℕ) (t : Tier) → layersOf (tierAfter xs t) ≡ layersThrough xs (layersOf t)
-layers-through xs t = rw (layers-each xs (layersOf t)) (first-mapped (afterEach xs) (t .count) (t .layers))
+pub layers-through : (share : ℕ) (xs : List ℕ) (t : Tier)
+    → layersOf (tierAfter share xs t) ≡ layersThrough share xs (layersOf t)
+layers-through share xs t =
+    rw (layers-each share xs (layersOf t)) (first-mapped (onEach share xs) (t .count) (t .layers))

@@ -1,8 +1,9 @@
 // A layer's terms, as its line of the table gives them.
 ghost use mathlib.Core.Path.{_≡_};
-ghost use Prim.Native.Nat.{_-_, _*_, _≤_};
+ghost use Prim.Native.Nat.{_+_, _-_, _*_, _≤_};
 ghost use Rattle.arith.specs.Round.{rounded};
-ghost use Rattle.layer.specs.Layer.{broughtBy, capOf, placedOf, ratedOf};
+ghost use Rattle.layer.specs.Layer.{broughtBy, capOf, cutAtCap, placedOf, ratedOf};
+ghost use Rattle.layer.specs.Layer.{premiumOf, isTimed, timedMost};
 ghost use Rattle.layer.specs.Ranges.{InRange};
 use crate::amount::Placed;
 use crate::amount::Rated;
@@ -12,7 +13,8 @@ use crate::amount::Whole;
 pub const RATES: usize = 20;
 
 // Attachment, limit, deductible and premium are at 100% of the layer; placed share and rates are in basis points. The
-// first rates, as many as reinstatements, are used; every other is 0.
+// first rates, as many as reinstatements, are used; every other is 0. `time` is 1 where premium is by amount and time,
+// and 0 elsewhere.
 #[repr(C)]
 pub struct Terms {
     pub attachment: u64,
@@ -22,9 +24,17 @@ pub struct Terms {
     pub premium: u64,
     pub placed: u64,
     pub rates: [u64; RATES],
+    pub time: u64,
 }
 
 impl Terms {
+    // Whether premium is by amount and time.
+    pub fn is_timed(self) -> bool
+        ensures { λ r. ⌜ r ≡ isTimed self ⌝ }
+    {
+        self.time == 1
+    }
+
     // The loss that a subject amount brings.
     pub fn brings(self, subject: u64) -> Whole
         ensures { λ r. ⌜ r .0 ≡ broughtBy self subject ⌝ }
@@ -39,6 +49,14 @@ impl Terms {
         ensures { λ r. ⌜ r .0 ≡ capOf self ⌝ }
     {
         Whole::new(self.deductible + self.limit * (self.reinstatements + 1))
+    }
+
+    // The spent amount after the loss that a subject amount brings.
+    pub fn spent_after(self, spent: Whole, subject: u64) -> Whole
+        requires { ⌜ InRange self × (spent .0 ≤ capOf self) ⌝ }
+        ensures { λ r. ⌜ r .0 ≡ cutAtCap self (spent .0 + broughtBy self subject) ⌝ }
+    {
+        spent.plus(self.brings(subject)).at_most(self.cap())
     }
 
     // An amount of the layer at its placed share; used amounts are at most the limit and its reinstatements.
@@ -81,6 +99,25 @@ impl Terms {
     {
         let rated = self.rated(used);
         rated.premium(Whole::new(self.premium), Whole::new(self.limit))
+    }
+
+    // The same for a spent amount.
+    pub fn premium_at(self, spent: Whole) -> Placed
+        requires { ⌜ InRange self × (spent .0 ≤ capOf self) ⌝ }
+        ensures { λ r. ⌜ r .0 ≡ premiumOf self (spent .0) ⌝ }
+    {
+        self.premium_for(spent.less(Whole::new(self.deductible)))
+    }
+
+    // The most that the year's timed premium may be at a spent amount: the amount premium, and 0 without time.
+    pub fn timed_most(self, spent: Whole) -> Placed
+        requires { ⌜ InRange self × (spent .0 ≤ capOf self) ⌝ }
+        ensures { λ r. ⌜ r .0 ≡ timedMost self (spent .0) ⌝ }
+    {
+        if self.is_timed() {
+            return self.premium_at(spent);
+        }
+        Placed::none()
     }
 
     // What it grows by from one used amount to another: of terms with twenty rates, one copy serves both.

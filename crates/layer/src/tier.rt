@@ -24,11 +24,11 @@ pub struct TierBorne {
 }
 
 // Brings each layer of a lent list up to date in its place: amounts come to it, each in turn the subject, and its
-// recoveries and premiums are added to the sums. Layer by layer, since none looks at another.
+// recoveries and the premiums due are added to the sums. Layer by layer, since none looks at another.
 fn bear_all(layers: &mut [Layer], subjects: &[u64], mut sums: Sums) -> Sums
     requires { ⌜ SoundLayers (now layers) × AmpleForTier sums ⌝ }
     ensures { λ r. ⌜ (r ≡ sumsThrough (now (subjects .entry)) sums (now (layers .entry)))
-        × (now (layers .exit) ≡ layersThrough (now (subjects .entry)) (now (layers .entry))) ⌝ }
+        × (now (layers .exit) ≡ layersThrough (sums .share) (now (subjects .entry)) (now (layers .entry))) ⌝ }
 {
     let mut i: usize = 0;
     while i < layers.len() {
@@ -43,7 +43,8 @@ fn bear_all(layers: &mut [Layer], subjects: &[u64], mut sums: Sums) -> Sums
 // The same for the tier of eight places by value, of which the first `count` are lent here; the others stay.
 pub fn bear_first(layers: [Layer; PLACES], count: usize, subjects: &[u64], sums: Sums) -> TierBorne
     requires { ⌜ (count ≤ 8) × SoundLayers (take count layers) × AmpleForTier sums ⌝ }
-    ensures { λ r. ⌜ (r .tier ≡ tierAfter (now (subjects .entry)) (record { layers = layers; count = count }))
+    ensures { λ r. ⌜ (r .tier
+        ≡ tierAfter (sums .share) (now (subjects .entry)) (record { layers = layers; count = count }))
         × (r .sums ≡ sumsThrough (now (subjects .entry)) sums (take count layers)) ⌝ }
 {
     let mut lent = layers;

@@ -65,6 +65,7 @@ terms-in-range l e = record {
   placed = within 0 10000 (l .placed) (omega arith) .1;
   rates = rates-small (l .reinstatements) (l .rates) (omega arith);
   places = rates-places (l .reinstatements) (l .rates) (omega arith);
+  time = within 0 1 (l .time) (omega arith) .1;
 }
 
 -- its rates are those in use, with zeros after them

@@ -28,8 +28,8 @@ treaty k t c a r n l =
 abbrev zeroTreaty : Treaty
 zeroTreaty = treaty 0 0 0 0 0 0 0
 
-abbrev terms : (a l d k p s : ℕ) → List ℕ → Terms
-terms a l d k p s qs = record {
+abbrev terms : (a l d k p s : ℕ) → List ℕ → (w : ℕ) → Terms
+terms a l d k p s qs w = record {
   attachment = a;
   limit = l;
   deductible = d;
@@ -37,6 +37,7 @@ terms a l d k p s qs = record {
   premium = p;
   placed = s;
   rates = qs;
+  time = w;
 }
 
 -- twenty rates: none, one, and twenty different ones
@@ -52,7 +53,7 @@ twentyRates =
     ∷ 17 ∷ 3 ∷ []
 
 abbrev pub zeroTerms : Terms
-zeroTerms = terms 0 0 0 0 0 0 noRates
+zeroTerms = terms 0 0 0 0 0 0 noRates 0
 
 -- the programme without contracts, place by place
 abbrev pub nothingHeld : Programme
@@ -72,7 +73,7 @@ nothingHeld = record {
   };
 }
 
--- one with two treaties and a layer of each tier
+-- one with two treaties and a layer of each tier, the cat layer with (time)
 abbrev pub allHeld : Programme
 allHeld = record {
   treaties = record {
@@ -81,12 +82,12 @@ allHeld = record {
     count = 2;
   };
   risk = record {
-    places = terms 50 51 7 1 9 3333 oneRate ∷ zeroTerms ∷ zeroTerms ∷ zeroTerms
+    places = terms 50 51 7 1 9 3333 oneRate 0 ∷ zeroTerms ∷ zeroTerms ∷ zeroTerms
         ∷ zeroTerms ∷ zeroTerms ∷ zeroTerms ∷ zeroTerms ∷ [];
     count = 1;
   };
   cat = record {
-    places = terms 40 60 0 20 1000000000000 7200 twentyRates ∷ zeroTerms ∷ zeroTerms ∷ zeroTerms
+    places = terms 40 60 0 20 1000000000000 7200 twentyRates 1 ∷ zeroTerms ∷ zeroTerms ∷ zeroTerms
         ∷ zeroTerms ∷ zeroTerms ∷ zeroTerms ∷ zeroTerms ∷ [];
     count = 1;
   };
@@ -96,16 +97,16 @@ allHeld = record {
 abbrev pub allContracts : Contracts
 allContracts = record {
   treaties = quotaOf 2 4000 20000 15000 ∷ surplusOf 5 10000 3 0 ∷ [];
-  risk = termsOf 50 51 7 1 9 (20000 ∷ []) 3333 ∷ [];
-  cat = termsOf 40 60 0 20 1000000000000 twentyRates 7200 ∷ [];
+  risk = termsOf 50 51 7 1 9 (20000 ∷ []) 3333 0 ∷ [];
+  cat = termsOf 40 60 0 20 1000000000000 twentyRates 7200 1 ∷ [];
 }
 
 -- eight layers, each at the end of the band before
 abbrev pub eightTerms : List Terms
 eightTerms =
-    termsOf 0 10 0 0 0 [] 3333 ∷ termsOf 10 20 0 0 0 [] 3333 ∷ termsOf 30 5 0 0 0 [] 3333 ∷ termsOf 35 1 0 0 0 [] 3333
-    ∷ termsOf 36 4 0 0 0 [] 3333 ∷ termsOf 40 2 0 0 0 [] 3333 ∷ termsOf 42 8 0 0 0 [] 3333
-    ∷ termsOf 50 50 0 0 0 [] 3333 ∷ []
+    termsOf 0 10 0 0 0 [] 3333 0 ∷ termsOf 10 20 0 0 0 [] 3333 0 ∷ termsOf 30 5 0 0 0 [] 3333 0
+    ∷ termsOf 35 1 0 0 0 [] 3333 0 ∷ termsOf 36 4 0 0 0 [] 3333 0 ∷ termsOf 40 2 0 0 0 [] 3333 0
+    ∷ termsOf 42 8 0 0 0 [] 3333 0 ∷ termsOf 50 50 0 0 0 [] 3333 0 ∷ []
 
 -- a programme that holds nothing but these places of risk layers, n of them used
 abbrev pub withRisk : ℕ → List Terms → Programme
@@ -121,7 +122,7 @@ before ts rs cs = record { treaties = ts; risk = rs; cat = cs }
 
 -- one layer, with the band 50 50
 abbrev oneBand : List Terms
-oneBand = termsOf 50 50 0 0 0 [] 3333 ∷ []
+oneBand = termsOf 50 50 0 0 0 [] 3333 0 ∷ []
 
 -- 0 and 1, 10^13 and one past it: of these an amount from 0 on lacks the last, one from 1 on the first too
 abbrev amounts : List ℕ
@@ -135,13 +136,13 @@ pub record Corners : Type 0 where
   pub contracts : contractsIn allHeld ≡ allContracts
   pub in-order : inOrder allContracts
       ≡ Proportional (quotaOf 2 4000 20000 15000) ∷ Proportional (surplusOf 5 10000 3 0)
-      ∷ Risk (termsOf 50 51 7 1 9 (20000 ∷ []) 3333) ∷ Cat (termsOf 40 60 0 20 1000000000000 twentyRates 7200) ∷ []
+      ∷ Risk (termsOf 50 51 7 1 9 (20000 ∷ []) 3333 0) ∷ Cat (termsOf 40 60 0 20 1000000000000 twentyRates 7200 1) ∷ []
   pub one-by-one : withContract (withContract (withContract allContracts (Proportional (quotaOf 7 1 0 0)))
-      (Risk (termsOf 200 1 0 0 0 [] 1))) (Cat (termsOf 300 1 0 0 0 [] 2))
+      (Risk (termsOf 200 1 0 0 0 [] 1 0))) (Cat (termsOf 300 1 0 0 0 [] 2 0))
       ≡ record {
         treaties = quotaOf 2 4000 20000 15000 ∷ surplusOf 5 10000 3 0 ∷ quotaOf 7 1 0 0 ∷ [];
-        risk = termsOf 50 51 7 1 9 (20000 ∷ []) 3333 ∷ termsOf 200 1 0 0 0 [] 1 ∷ [];
-        cat = termsOf 40 60 0 20 1000000000000 twentyRates 7200 ∷ termsOf 300 1 0 0 0 [] 2 ∷ [];
+        risk = termsOf 50 51 7 1 9 (20000 ∷ []) 3333 0 ∷ termsOf 200 1 0 0 0 [] 1 0 ∷ [];
+        cat = termsOf 40 60 0 20 1000000000000 twentyRates 7200 1 ∷ termsOf 300 1 0 0 0 [] 2 0 ∷ [];
       }
   -- of each number in turn, among others in range: 0 at an end, 1 one past it
   pub quota-number : map (λ (n : ℕ). treatyOutside (quotaOf n 4000 7 9)) (0 ∷ 1 ∷ 8 ∷ 9 ∷ []) ≡ 1 ∷ 0 ∷ 0 ∷ 1 ∷ []
@@ -152,32 +153,34 @@ pub record Corners : Type 0 where
   pub surplus-retention : map (λ (n : ℕ). treatyOutside (surplusOf 3 n 3 9)) amounts ≡ 0 ∷ 0 ∷ 0 ∷ 1 ∷ []
   pub surplus-lines : map (λ (n : ℕ). treatyOutside (surplusOf 3 7 n 9)) (0 ∷ 100 ∷ 101 ∷ []) ≡ 0 ∷ 0 ∷ 1 ∷ []
   pub surplus-limit : map (λ (n : ℕ). treatyOutside (surplusOf 3 7 3 n)) amounts ≡ 0 ∷ 0 ∷ 0 ∷ 1 ∷ []
-  pub layer-attachment : map (λ (n : ℕ). termsOutside (termsOf n 7 9 2 11 (5000 ∷ 13 ∷ []) 7200)) amounts
+  pub layer-attachment : map (λ (n : ℕ). termsOutside (termsOf n 7 9 2 11 (5000 ∷ 13 ∷ []) 7200 0)) amounts
       ≡ 0 ∷ 0 ∷ 0 ∷ 1 ∷ []
-  pub layer-limit : map (λ (n : ℕ). termsOutside (termsOf 5 n 9 2 11 (5000 ∷ 13 ∷ []) 7200)) amounts
+  pub layer-limit : map (λ (n : ℕ). termsOutside (termsOf 5 n 9 2 11 (5000 ∷ 13 ∷ []) 7200 0)) amounts
       ≡ 1 ∷ 0 ∷ 0 ∷ 1 ∷ []
-  pub layer-deductible : map (λ (n : ℕ). termsOutside (termsOf 5 7 n 2 11 (5000 ∷ 13 ∷ []) 7200))
+  pub layer-deductible : map (λ (n : ℕ). termsOutside (termsOf 5 7 n 2 11 (5000 ∷ 13 ∷ []) 7200 0))
       (0 ∷ 1000000000000000 ∷ 1000000000000001 ∷ []) ≡ 0 ∷ 0 ∷ 1 ∷ []
-  pub layer-reinstatements : map (λ (n : ℕ). termsOutside (termsOf 5 7 9 n 11 [] 7200)) (0 ∷ 20 ∷ 21 ∷ [])
+  pub layer-reinstatements : map (λ (n : ℕ). termsOutside (termsOf 5 7 9 n 11 [] 7200 0)) (0 ∷ 20 ∷ 21 ∷ [])
       ≡ 0 ∷ 0 ∷ 1 ∷ []
-  pub layer-premium : map (λ (n : ℕ). termsOutside (termsOf 5 7 9 2 n (5000 ∷ 13 ∷ []) 7200))
+  pub layer-premium : map (λ (n : ℕ). termsOutside (termsOf 5 7 9 2 n (5000 ∷ 13 ∷ []) 7200 0))
       (0 ∷ 1000000000000 ∷ 1000000000001 ∷ []) ≡ 0 ∷ 0 ∷ 1 ∷ []
-  pub layer-placed : map (λ (n : ℕ). termsOutside (termsOf 5 7 9 2 11 (5000 ∷ 13 ∷ []) n)) (0 ∷ 10000 ∷ 10001 ∷ [])
+  pub layer-placed : map (λ (n : ℕ). termsOutside (termsOf 5 7 9 2 11 (5000 ∷ 13 ∷ []) n 0)) (0 ∷ 10000 ∷ 10001 ∷ [])
       ≡ 0 ∷ 0 ∷ 1 ∷ []
   -- each rate in use, the first, one between and the last; and the first place past them
-  pub layer-rates : map (λ (n : ℕ). termsOutside (termsOf 5 7 9 3 11 (n ∷ 1 ∷ 2 ∷ []) 7200)) (0 ∷ 20000 ∷ 20001 ∷ [])
+  pub layer-rates : map (λ (n : ℕ). termsOutside (termsOf 5 7 9 3 11 (n ∷ 1 ∷ 2 ∷ []) 7200 0)) (0 ∷ 20000 ∷ 20001 ∷ [])
       ≡ 0 ∷ 0 ∷ 1 ∷ []
-  pub layer-rate-between : map (λ (n : ℕ). termsOutside (termsOf 5 7 9 3 11 (1 ∷ n ∷ 2 ∷ []) 7200))
+  pub layer-rate-between : map (λ (n : ℕ). termsOutside (termsOf 5 7 9 3 11 (1 ∷ n ∷ 2 ∷ []) 7200 0))
       (0 ∷ 20000 ∷ 20001 ∷ []) ≡ 0 ∷ 0 ∷ 1 ∷ []
-  pub layer-rate-last : map (λ (n : ℕ). termsOutside (termsOf 5 7 9 3 11 (1 ∷ 2 ∷ n ∷ []) 7200))
+  pub layer-rate-last : map (λ (n : ℕ). termsOutside (termsOf 5 7 9 3 11 (1 ∷ 2 ∷ n ∷ []) 7200 0))
       (0 ∷ 20000 ∷ 20001 ∷ []) ≡ 0 ∷ 0 ∷ 1 ∷ []
-  pub layer-rate-past : map (λ (n : ℕ). termsOutside (termsOf 5 7 9 3 11 (1 ∷ 2 ∷ 3 ∷ n ∷ []) 7200)) (0 ∷ 1 ∷ [])
+  pub layer-rate-past : map (λ (n : ℕ). termsOutside (termsOf 5 7 9 3 11 (1 ∷ 2 ∷ 3 ∷ n ∷ []) 7200 0)) (0 ∷ 1 ∷ [])
       ≡ 0 ∷ 1 ∷ []
   -- all twenty in use, and but the last; one place more or less than twenty
-  pub twenty-rates : map (λ (k : ℕ). termsOutside (terms 5 7 9 k 11 7200 twentyRates)) (20 ∷ 19 ∷ 0 ∷ [])
+  pub twenty-rates : map (λ (k : ℕ). termsOutside (terms 5 7 9 k 11 7200 twentyRates 0)) (20 ∷ 19 ∷ 0 ∷ [])
       ≡ 0 ∷ 1 ∷ 1 ∷ []
-  pub rates-places : map (λ (qs : List ℕ). termsOutside (terms 5 7 9 1 11 7200 qs))
+  pub rates-places : map (λ (qs : List ℕ). termsOutside (terms 5 7 9 1 11 7200 qs 0))
       (noRates ∷ (0 ∷ noRates) ∷ take 19 noRates ∷ []) ≡ 0 ∷ 1 ∷ 1 ∷ []
+  -- (time) or not, and nothing else
+  pub layer-time : map (λ (n : ℕ). termsOutside (terms 5 7 9 1 11 7200 oneRate n)) (0 ∷ 1 ∷ 2 ∷ []) ≡ 0 ∷ 0 ∷ 1 ∷ []
   -- the kinds 1 and 2 alone are treaties; each holds 0 in the terms of the other
   pub kinds : map (λ (k : ℕ). treatyOutside (treaty k 3 0 0 0 0 9)) (0 ∷ 1 ∷ 2 ∷ 3 ∷ []) ≡ 1 ∷ 0 ∷ 0 ∷ 1 ∷ []
   pub not-of-a-quota : map treatyOutside (treaty 1 3 4000 7 1 0 9 ∷ treaty 1 3 4000 7 0 1 9 ∷ []) ≡ 1 ∷ 1 ∷ []
@@ -189,13 +192,14 @@ pub record Corners : Type 0 where
       ∷ treaty 0 0 0 0 1 0 0 ∷ treaty 0 0 0 0 0 1 0 ∷ treaty 0 0 0 0 0 0 1 ∷ []) ≡ replicate 7 1
   pub terms-unused : termsNotZero zeroTerms ≡ 0
   pub terms-not-unused : map termsNotZero
-      (terms 1 0 0 0 0 0 noRates ∷ terms 0 1 0 0 0 0 noRates ∷ terms 0 0 1 0 0 0 noRates ∷ terms 0 0 0 1 0 0 noRates
-      ∷ terms 0 0 0 0 1 0 noRates ∷ terms 0 0 0 0 0 1 noRates ∷ terms 0 0 0 0 0 0 oneRate
-      ∷ terms 0 0 0 0 0 0 (take 19 noRates ++ (1 ∷ [])) ∷ terms 0 0 0 0 0 0 (take 19 noRates) ∷ []) ≡ replicate 9 1
+      (terms 1 0 0 0 0 0 noRates 0 ∷ terms 0 1 0 0 0 0 noRates 0 ∷ terms 0 0 1 0 0 0 noRates 0
+      ∷ terms 0 0 0 1 0 0 noRates 0 ∷ terms 0 0 0 0 1 0 noRates 0 ∷ terms 0 0 0 0 0 1 noRates 0
+      ∷ terms 0 0 0 0 0 0 oneRate 0 ∷ terms 0 0 0 0 0 0 (take 19 noRates ++ (1 ∷ [])) 0
+      ∷ terms 0 0 0 0 0 0 (take 19 noRates) 0 ∷ terms 0 0 0 0 0 0 noRates 1 ∷ []) ≡ replicate 10 1
   -- a contract by its kind, with terms beside it
-  pub kinds-of : map (λ (k : Kind). contractOf k (termsOf 7 1 2 1 3 (4 ∷ []) 5))
+  pub kinds-of : map (λ (k : Kind). contractOf k (termsOf 7 1 2 1 3 (4 ∷ []) 5 0))
       (kind.Proportional (quotaOf 1 4000 0 0) ∷ kind.Risk ∷ kind.Cat ∷ [])
-      ≡ Proportional (quotaOf 1 4000 0 0) ∷ Risk (termsOf 7 1 2 1 3 (4 ∷ []) 5) ∷ Cat (termsOf 7 1 2 1 3 (4 ∷ []) 5)
+      ≡ Proportional (quotaOf 1 4000 0 0) ∷ Risk (termsOf 7 1 2 1 3 (4 ∷ []) 5 0) ∷ Cat (termsOf 7 1 2 1 3 (4 ∷ []) 5 0)
       ∷ []
   -- 4: a treaty of either kind after a risk layer, and after a cat layer
   pub treaties-after-risk : map (faultOf (before [] oneBand []))
@@ -203,10 +207,10 @@ pub record Corners : Type 0 where
   pub treaties-after-cat : map (faultOf (before [] [] oneBand))
       (Proportional (quotaOf 1 4000 0 0) ∷ Proportional (surplusOf 1 10000 3 0) ∷ []) ≡ 4 ∷ 4 ∷ []
   -- a risk layer after a cat layer; a layer of either tier after a treaty and a cat layer after a risk layer are fine
-  pub risk-after-cat : faultOf (before [] [] oneBand) (Risk (termsOf 100 1 0 0 0 [] 0)) ≡ 4
+  pub risk-after-cat : faultOf (before [] [] oneBand) (Risk (termsOf 100 1 0 0 0 [] 0 0)) ≡ 4
   pub layers-after-treaty : map (faultOf (before (quotaOf 8 4000 0 0 ∷ []) [] []))
-      (Risk (termsOf 0 1 0 0 0 [] 0) ∷ Cat (termsOf 0 1 0 0 0 [] 0) ∷ []) ≡ 0 ∷ 0 ∷ []
-  pub cat-after-risk : faultOf (before [] oneBand []) (Cat (termsOf 99 1 0 0 0 [] 0)) ≡ 0
+      (Risk (termsOf 0 1 0 0 0 [] 0 0) ∷ Cat (termsOf 0 1 0 0 0 [] 0 0) ∷ []) ≡ 0 ∷ 0 ∷ []
+  pub cat-after-risk : faultOf (before [] oneBand []) (Cat (termsOf 99 1 0 0 0 [] 0 0)) ≡ 0
   -- T below, at and above the one before, over both kinds
   pub rising-after-quota : map (faultOf (before (quotaOf 3 4000 0 0 ∷ []) [] []))
       (Proportional (surplusOf 2 7 3 9) ∷ Proportional (surplusOf 3 7 3 9) ∷ Proportional (surplusOf 4 7 3 9) ∷ [])
@@ -215,21 +219,21 @@ pub record Corners : Type 0 where
       (Proportional (quotaOf 4 4000 0 0) ∷ Proportional (quotaOf 5 4000 0 0) ∷ Proportional (quotaOf 6 4000 0 0) ∷ [])
       ≡ 4 ∷ 4 ∷ 0 ∷ []
   -- 5: an attachment at the end of the band before, and a cent below it
-  pub risk-bands : map (λ (n : ℕ). faultOf (before [] oneBand []) (Risk (termsOf n 1 0 0 0 [] 0))) (100 ∷ 99 ∷ [])
+  pub risk-bands : map (λ (n : ℕ). faultOf (before [] oneBand []) (Risk (termsOf n 1 0 0 0 [] 0 0))) (100 ∷ 99 ∷ [])
       ≡ 0 ∷ 5 ∷ []
-  pub cat-bands : map (λ (n : ℕ). faultOf (before [] [] oneBand) (Cat (termsOf n 1 0 0 0 [] 0))) (100 ∷ 99 ∷ [])
+  pub cat-bands : map (λ (n : ℕ). faultOf (before [] [] oneBand) (Cat (termsOf n 1 0 0 0 [] 0 0))) (100 ∷ 99 ∷ [])
       ≡ 0 ∷ 5 ∷ []
   -- an eighth layer is fine, a ninth is 4, also below the end of the band before, and 3 with a limit of 0
-  pub eighth-risk : faultOf (before [] (take 7 eightTerms) []) (Risk (termsOf 50 1 0 0 0 [] 0)) ≡ 0
-  pub eighth-cat : faultOf (before [] [] (take 7 eightTerms)) (Cat (termsOf 50 1 0 0 0 [] 0)) ≡ 0
+  pub eighth-risk : faultOf (before [] (take 7 eightTerms) []) (Risk (termsOf 50 1 0 0 0 [] 0 0)) ≡ 0
+  pub eighth-cat : faultOf (before [] [] (take 7 eightTerms)) (Cat (termsOf 50 1 0 0 0 [] 0 0)) ≡ 0
   pub ninth-risk : map (faultOf (before [] eightTerms []))
-      (Risk (termsOf 100 1 0 0 0 [] 0) ∷ Risk (termsOf 99 1 0 0 0 [] 0) ∷ Risk (termsOf 99 0 0 0 0 [] 0) ∷ [])
+      (Risk (termsOf 100 1 0 0 0 [] 0 0) ∷ Risk (termsOf 99 1 0 0 0 [] 0 0) ∷ Risk (termsOf 99 0 0 0 0 [] 0 0) ∷ [])
       ≡ 4 ∷ 4 ∷ 3 ∷ []
   pub ninth-cat : map (faultOf (before [] [] eightTerms))
-      (Cat (termsOf 100 1 0 0 0 [] 0) ∷ Cat (termsOf 99 1 0 0 0 [] 0) ∷ Cat (termsOf 99 0 0 0 0 [] 0) ∷ [])
+      (Cat (termsOf 100 1 0 0 0 [] 0 0) ∷ Cat (termsOf 99 1 0 0 0 [] 0 0) ∷ Cat (termsOf 99 0 0 0 0 [] 0 0) ∷ [])
       ≡ 4 ∷ 4 ∷ 3 ∷ []
   -- a first cat layer after eight risk layers is none of theirs
-  pub first-cat : faultOf (before [] eightTerms []) (Cat (termsOf 0 1 0 0 0 [] 0)) ≡ 0
+  pub first-cat : faultOf (before [] eightTerms []) (Cat (termsOf 0 1 0 0 0 [] 0 0)) ≡ 0
   -- validity: a programme of every form, and the same with a used place taken for an unused one
   pub all-valid : valid allHeld ≡ true
   pub treaty-past-the-count : valid (record {
@@ -244,11 +248,17 @@ pub record Corners : Type 0 where
     cat = record { places = allHeld .cat .places; count = 0 };
   })
       ≡ false
+  -- one risk layer without (time), with it, and with another number there; a 1 there in the place after it
+  pub time-held : map (λ (n : ℕ). valid (withRisk 1 (terms 50 51 7 1 9 3333 oneRate n ∷ replicate 7 zeroTerms)))
+      (0 ∷ 1 ∷ 2 ∷ []) ≡ true ∷ true ∷ false ∷ []
+  pub time-past-the-count :
+      valid (withRisk 1 (terms 50 51 7 1 9 3333 oneRate 1 ∷ terms 0 0 0 0 0 0 noRates 1 ∷ replicate 6 zeroTerms))
+      ≡ false
   -- bands of the cat layers that touch, and that overlap by a cent; two treaties with one T
-  pub cat-touching : valid (programmeOf (before [] [] (termsOf 50 50 0 0 0 [] 7200 ∷ termsOf 100 1 0 0 0 [] 7200 ∷ [])))
-      ≡ true
+  pub cat-touching :
+      valid (programmeOf (before [] [] (termsOf 50 50 0 0 0 [] 7200 0 ∷ termsOf 100 1 0 0 0 [] 7200 0 ∷ []))) ≡ true
   pub cat-overlapping :
-      valid (programmeOf (before [] [] (termsOf 50 50 0 0 0 [] 7200 ∷ termsOf 99 1 0 0 0 [] 7200 ∷ []))) ≡ false
+      valid (programmeOf (before [] [] (termsOf 50 50 0 0 0 [] 7200 0 ∷ termsOf 99 1 0 0 0 [] 7200 0 ∷ []))) ≡ false
   pub one-number : valid (programmeOf (before (quotaOf 3 4000 0 0 ∷ surplusOf 3 10000 3 0 ∷ []) [] [])) ≡ false
   -- eight layers of a tier, and a count of nine
   pub eight-used : valid (withRisk 8 eightTerms) ≡ true
@@ -290,6 +300,7 @@ corners = record {
   layer-rate-past = refl;
   twenty-rates = refl;
   rates-places = refl;
+  layer-time = refl;
   kinds = refl;
   not-of-a-quota = refl;
   not-of-a-surplus = refl;
@@ -315,6 +326,8 @@ corners = record {
   all-valid = refl;
   treaty-past-the-count = refl;
   cat-past-the-count = refl;
+  time-held = refl;
+  time-past-the-count = refl;
   cat-touching = refl;
   cat-overlapping = refl;
   one-number = refl;

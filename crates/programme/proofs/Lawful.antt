@@ -133,6 +133,7 @@ unused-terms l e =
       premium = nought (l .premium) (omega arith) i;
       placed = nought (l .placed) (omega arith) i;
       rates = sym (rates-refilled 0 (l .rates) (omega arith)) i;
+      time = nought (l .time) (omega arith) i;
     }
 
 -- the programme of lawful contracts is valid

@@ -49,7 +49,7 @@ abbrev pub noTreaty : Treaty
 noTreaty = record { kind = 0; number = 0; cede = 0; capacity = 0; retention = 0; lines = 0; limit = 0 }
 
 abbrev pub noTerms : Terms
-noTerms = termsOf 0 0 0 0 0 [] 0
+noTerms = termsOf 0 0 0 0 0 [] 0 0
 
 -- contracts in the first of eight places
 abbrev pub treatyPlaces : List Treaty → Treaties

@@ -1,4 +1,4 @@
--- Document 01, The table text, with document 02's Q-2: the ranges of a table's numbers.
+-- Document 01, The table text, with document 02's Q-2 and Q-4: the ranges of a table's numbers.
 -- Assumes nothing.
 use mathlib.Core.Bool.{cond, _&&_}
 use mathlib.Core.List.{List}
@@ -38,12 +38,12 @@ ratesOutside k qs =
     && (every (λ (q : ℕ). leb q 20000) (take k qs) && every (λ (q : ℕ). eqb q 0) (drop k qs))) 0 1
 
 -- of a layer: attachment 0 to 10^13; limit 1 to 10^13; deduct 0 to 10^15; K 0 to 20; premium 0 to 10^12; S 0 to
--- 10,000; and its rates
+-- 10,000; its rates; and 0 or 1 for (time)
 unfoldable pub termsOutside : Terms → ℕ
 termsOutside l =
     outside 0 (10 ^ 13) (l .attachment) + outside 1 (10 ^ 13) (l .limit) + outside 0 (10 ^ 15) (l .deductible)
     + outside 0 20 (l .reinstatements) + outside 0 (10 ^ 12) (l .premium) + outside 0 10000 (l .placed)
-    + ratesOutside (l .reinstatements) (l .rates)
+    + ratesOutside (l .reinstatements) (l .rates) + outside 0 1 (l .time)
 
 -- how many numbers of a place are not 0; a layer's rates count for one
 unfoldable pub treatyNotZero : Treaty → ℕ
@@ -55,4 +55,4 @@ unfoldable pub termsNotZero : Terms → ℕ
 termsNotZero l =
     outside 0 0 (l .attachment) + outside 0 0 (l .limit) + outside 0 0 (l .deductible)
     + outside 0 0 (l .reinstatements) + outside 0 0 (l .premium) + outside 0 0 (l .placed)
-    + ratesOutside 0 (l .rates)
+    + ratesOutside 0 (l .rates) + outside 0 0 (l .time)

@@ -64,6 +64,7 @@ pub fn no_terms() -> Terms
         premium: 0,
         placed: 0,
         rates: [0; RATES],
+        time: 0,
     }
 }
 

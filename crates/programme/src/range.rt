@@ -8,7 +8,7 @@ use layer::terms::Terms;
 use treaty::Treaty;
 
 // The largest numbers of a table but for shares: treaties, rates in basis points, amounts, lines, yearly deductibles,
-// reinstatements and reinstatement premiums.
+// reinstatements, reinstatement premiums, and 1 for (time).
 pub const TREATIES: u64 = 8;
 
 const RATE: u64 = 20000;
@@ -22,6 +22,8 @@ const DEDUCTIBLE: u64 = 1000000000000000;
 const REINSTATEMENTS: u64 = 20;
 
 const PREMIUM: u64 = 1000000000000;
+
+const TIME: u64 = 1;
 
 // 1 for a number outside its range, 0 for one within it.
 pub fn outside(low: u64, high: u64, n: u64) -> u64
@@ -104,6 +106,7 @@ pub fn terms_outside(l: Terms) -> u64
         + outside(0, PREMIUM, l.premium)
         + outside(0, arith::WHOLE, l.placed)
         + rates_outside(rates, l.reinstatements)
+        + outside(0, TIME, l.time)
 }
 
 // How many numbers of a treaty's place are not 0.
@@ -131,4 +134,5 @@ pub fn terms_not_zero(l: Terms) -> u64
         + outside(0, 0, l.premium)
         + outside(0, 0, l.placed)
         + rates_outside(rates, 0)
+        + outside(0, 0, l.time)
 }

@@ -18,9 +18,9 @@ use Rattle.layer.specs.declared.record.Layer.{Layer}
 use Rattle.layer.specs.Layer.{capOf, layerOf}
 use Rattle.layer.specs.Ranges.{InRange, Sound, Rising}
 use Rattle.layer.proofs.Still.{From, rising-from, Still, still-from}
-use Rattle.year.specs.Standing.{layersWith}
+use Rattle.year.specs.Standing.{layersWith, layersHeld}
 use Rattle.standings.specs.Tier.{largestOf, reachedBy, exhaustedOf}
-use Rattle.standings.proofs.Loads.{with-length, with-at}
+use Rattle.standings.proofs.Loads.{held-length, held-at}
 
 -- the largest of the first i amounts is m: those ahead give the whole answer
 pub record Sought (xs : List ℕ) (m i : ℕ) : Type 0 where
@@ -89,13 +89,14 @@ reached-le x (t ∷ ts) =
     (λ h. rw (reach-none x t ts h) (omega arith))
 
 -- the layers after those that x reaches are attached at x or above, since bands rise
-from-reached : (x e : ℕ) (ts : List Terms) (ms : List ℕ) → Rising e (layersWith ts ms)
-    → From x (drop (reachedBy x ts) (layersWith ts ms))
-from-reached x e [] ms r = tt
-from-reached x e (t ∷ ts) ms r =
+from-reached : (x e : ℕ) (ts : List Terms) (ms ns : List ℕ) → Rising e (layersWith ts ms ns)
+    → From x (drop (reachedBy x ts) (layersWith ts ms ns))
+from-reached x e [] ms ns r = tt
+from-reached x e (t ∷ ts) ms ns r =
     let after = t .attachment + t .limit in
-    by-lt (t .attachment) x (λ h. rw (reach-one x t ts h) (from-reached x after ts (drop 1 ms) (r .1)))
-    (λ h. rw (reach-none x t ts h) (h, rising-from x after (layersWith ts (drop 1 ms)) (omega arith) (r .1)))
+    by-lt (t .attachment) x (λ h. rw (reach-one x t ts h) (from-reached x after ts (drop 1 ms) (drop 1 ns) (r .1)))
+    (λ h. rw (reach-none x t ts h)
+    (h, rising-from x after (layersWith ts (drop 1 ms) (drop 1 ns)) (omega arith) (r .1)))
 
 -- no amount is above the largest
 up-to-largest : (xs : List ℕ) → Each (λ (x : ℕ). x ≤ largestOf xs) xs
@@ -106,12 +107,12 @@ up-to-largest (x ∷ xs) = (
 )
 
 -- so the amounts leave them as they are
-pub still-after : (xs : List ℕ) (ts : List Terms) (ms : List ℕ) → Each Sound (layersWith ts ms)
-    → Rising 0 (layersWith ts ms) → Still xs (drop (reachedBy (largestOf xs) ts) (layersWith ts ms))
-still-after xs ts ms s r =
+pub still-after : (xs : List ℕ) (ts : List Terms) (hs : List ℕ) → Each Sound (layersHeld ts hs)
+    → Rising 0 (layersHeld ts hs) → Still xs (drop (reachedBy (largestOf xs) ts) (layersHeld ts hs))
+still-after xs ts hs s r =
     let n = reachedBy (largestOf xs) ts in
-    still-from xs (largestOf xs) (up-to-largest xs) (drop n (layersWith ts ms)) (each-drop Sound n (layersWith ts ms) s)
-    (from-reached (largestOf xs) 0 ts ms r)
+    still-from xs (largestOf xs) (up-to-largest xs) (drop n (layersHeld ts hs)) (each-drop Sound n (layersHeld ts hs) s)
+    (from-reached (largestOf xs) 0 ts (take 8 hs) (drop 8 hs) r)
 
 -- a layer that has spent up to its cap
 abbrev pub Exhausted : Layer → Type 0
@@ -137,27 +138,30 @@ exhausted-full (y ∷ ys) =
     (λ h. rw (exhaust-one y ys h) (h, exhausted-full ys))
 
 -- the first i of k layers are exhausted: those ahead give the whole answer
-pub record Exhausting (k : ℕ) (ts : List Terms) (ms : List ℕ) (i : ℕ) : Type 0 where
-  pub sound : Each Sound (layersWith ts ms)
+pub record Exhausting (k : ℕ) (ts : List Terms) (hs : List ℕ) (i : ℕ) : Type 0 where
+  pub sound : Each Sound (layersHeld ts hs)
   pub inside : k ≤ length ts
+  pub eight : k ≤ 8
   pub within : i ≤ k
-  pub rest : exhaustedOf (take k (layersWith ts ms)) ≡ i + exhaustedOf (slice i k (layersWith ts ms))
+  pub rest : exhaustedOf (take k (layersHeld ts hs)) ≡ i + exhaustedOf (slice i k (layersHeld ts hs))
 
-pub none-exhausted : (k : ℕ) (ts : List Terms) (ms : List ℕ) → Each Sound (layersWith ts ms) → k ≤ length ts
-    → Exhausting k ts ms 0
-none-exhausted k ts ms s h = record { sound = s; inside = h; within = omega arith; rest = omega arith }
+pub none-exhausted : (k : ℕ) (ts : List Terms) (hs : List ℕ) → Each Sound (layersHeld ts hs) → k ≤ length ts
+    → k ≤ 8 → Exhausting k ts hs 0
+none-exhausted k ts hs s h few =
+    record { sound = s; inside = h; eight = few; within = omega arith; rest = omega arith }
 
-module _ {k : ℕ} {ts : List Terms} {ms : List ℕ} {i : ℕ} (g : Exhausting k ts ms i) where
+module _ {k : ℕ} {ts : List Terms} {hs : List ℕ} {i : ℕ} (g : Exhausting k ts hs i) where
   abbrev layers : List Layer
-  layers = layersWith ts ms
+  layers = layersHeld ts hs
 
   -- the layer in the next place, its spent amount and its cap
-  module _ (d : Terms) (y : Layer) (h : i < k) (is : y ≡ layerOf (getD ts i d) (getD ms i 0)) where
+  module _ (d : Terms) (y : Layer) (h : i < k)
+      (is : y ≡ layerOf (getD ts i d) (getD hs i 0) (getD hs (8 + i) 0)) where
     own : getD layers i y ≡ y
-    own = with-at ts ms i y d (omega (arith, g .inside)) ∙ sym is
+    own = held-at ts hs i y d (omega (arith, g .inside)) (omega (arith, g .eight)) ∙ sym is
 
     long : k ≤ length layers
-    long = omega (arith, g .inside, with-length ts ms)
+    long = omega (arith, g .inside, held-length ts hs)
 
     next-sound : Sound y
     next-sound = rw own at (each-at Sound layers (g .sound) i y (omega (arith, long)))
@@ -171,10 +175,11 @@ module _ {k : ℕ} {ts : List Terms} {ms : List ℕ} {i : ℕ} (g : Exhausting k
         (slice-cons i k layers y h long ∙ (λ j. own j ∷ slice (sym (add-one i) j) k layers))
 
     module _ (m c : ℕ) (spent : m ≡ y .spent .0) (cap : c ≡ capOf (y .terms)) where
-      pub one-exhausted : c ≤ m → Exhausting k ts ms (i + 1)
+      pub one-exhausted : c ≤ m → Exhausting k ts hs (i + 1)
       one-exhausted f = record {
         sound = g .sound;
         inside = g .inside;
+        eight = g .eight;
         within = omega arith;
         rest = omega (arith, g .rest, next, exhaust-one y (slice (i + 1) k layers) (omega (arith, spent, cap)));
       }

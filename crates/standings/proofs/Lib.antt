@@ -1,3 +1,4 @@
+pub mod Halves
 pub mod Loads
 pub mod Stores
 pub mod Tests

@@ -8,13 +8,16 @@ use lib.Dec.{leb}
 use Rattle.lists.proofs.Chains.{both}
 use Rattle.programme.specs.Contracts.{Contracts}
 use Rattle.year.specs.declared.Standing.{Standing}
-use Rattle.year.specs.Standing.{spentPasses, standingPasses}
+use Rattle.year.specs.Standing.{tierPasses, standingPasses}
 
 -- a standing that passes has tiers that pass, and a day of the year
 pub standing-tests : (c : Contracts) (s : Standing) → standingPasses c s ≡ true
-    → (spentPasses (c .risk) (s .risk) ≡ true) × (spentPasses (c .cat) (s .cat) ≡ true) × (s .day ≤ 366)
+    → (tierPasses (c .risk) (s .risk) (s .«risk_timed») ≡ true)
+    × (tierPasses (c .cat) (s .cat) (s .«cat_timed») ≡ true) × (s .day ≤ 366)
 unfolding standingPasses
 standing-tests c s e =
-    let f = both (spentPasses (c .risk) (s .risk)) (spentPasses (c .cat) (s .cat) && leb (s .day) 366) e in
-    let g = both (spentPasses (c .cat) (s .cat)) (leb (s .day) 366) (f .1) in
+    let risk = tierPasses (c .risk) (s .risk) (s .«risk_timed») in
+    let cat = tierPasses (c .cat) (s .cat) (s .«cat_timed») in
+    let f = both risk (cat && leb (s .day) 366) e in
+    let g = both cat (leb (s .day) 366) (f .1) in
     (f .0, g .0, leb-true _ _ (g .1))

@@ -11,6 +11,7 @@ use programme::valid;
 use year::Opening;
 use year::Standing;
 
+pub mod held;
 pub mod terms;
 pub mod test;
 pub mod tier;
@@ -18,7 +19,7 @@ pub mod tier;
 // The refusal of a standing that breaks a rule.
 pub const NOT_A_STANDING: u64 = 8;
 
-// A fresh year's standing: nothing spent, no day run.
+// A fresh year's standing: nothing spent, no day run, no timed premium.
 pub fn fresh() -> Standing
     ensures { λ r. ⌜ r ≡ fresh ⌝ }
 {
@@ -26,6 +27,8 @@ pub fn fresh() -> Standing
         risk: [0; PLACES],
         cat: [0; PLACES],
         day: 0,
+        risk_timed: [0; PLACES],
+        cat_timed: [0; PLACES],
     }
 }
 
@@ -47,8 +50,8 @@ pub fn open(programme: Programme) -> Opening
     }
 }
 
-// Whether a standing may be run on: no spent amount above its cap or other than 0 for a missing layer, and no day
-// over 366.
+// Whether a standing may be run on: no spent amount above its cap, no timed premium above the amount premium or on a
+// layer without time, none of these other than 0 for a missing layer, and no day over 366.
 pub fn passes(programme: Programme, standing: Standing) -> bool
     requires { ⌜ valid programme ≡ true ⌝ }
     ensures { λ r. ⌜ r ≡ standingPasses (contractsIn programme) standing ⌝ }
@@ -60,8 +63,10 @@ pub fn passes(programme: Programme, standing: Standing) -> bool
     let cat = programme.cat;
     let risk_spent = standing.risk;
     let cat_spent = standing.cat;
-    if test::tier_passes(risk, risk_spent) {
-        return test::tier_passes(cat, cat_spent);
+    let risk_timed = standing.risk_timed;
+    let cat_timed = standing.cat_timed;
+    if test::tier_passes(risk, risk_spent, risk_timed) {
+        return test::tier_passes(cat, cat_spent, cat_timed);
     }
     false
 }

@@ -7,9 +7,9 @@ ghost use Rattle.lists.specs.Each.{Each};
 ghost use Rattle.text.specs.Buffer.{Put};
 ghost use Rattle.text.specs.Lines.{joined};
 ghost use Rattle.text.specs.Template.{filled};
-ghost use Rattle.layer.specs.Numbers.{tierFrom};
+ghost use Rattle.layer.specs.Numbers.{tierFrom, heldWidth};
 ghost use Rattle.layer.specs.Ranges.{Sound};
-ghost use Rattle.year.specs.Standing.{layersWith};
+ghost use Rattle.year.specs.Standing.{layersHeld};
 ghost use Rattle.year.specs.Statement.{eventTemplate, totalTemplate, eventNumbers, amountsNumbers, lineText};
 ghost use Rattle.year.specs.Statement.{added, layerLineOf, layerNumbers, treatyShown, layersShown};
 ghost use Rattle.losses.specs.Treaties.{placesFrom, treatiesFrom};
@@ -133,20 +133,19 @@ fn put_layer(out: &mut [u8], at: usize, kind: Kind, place: u64, layer: Layer) ->
 }
 
 // Those of a tier's layers, by the kind of the tier.
-pub fn put_layers(out: &mut [u8], at: usize, kind: Kind, terms: &[u64], spent: &[u64]) -> usize
+pub fn put_layers(out: &mut [u8], at: usize, kind: Kind, terms: &[u64], held: &[u64]) -> usize
     requires { ⌜ (at < 2 ^ 40) × (widthOf kind ≡ 5) × (length (tierFrom (now terms)) ≤ 8)
-        × (length (tierFrom (now terms)) ≤ length (now spent))
-        × Each Sound (layersWith (tierFrom (now terms)) (now spent)) ⌝ }
+        × (length (now held) ≡ heldWidth) × Each Sound (layersHeld (tierFrom (now terms)) (now held)) ⌝ }
     ensures { λ r. ⌜ Put (now (out .entry)) at
         (joined (map lineText (layersShown (templateOf kind) 1 (map layerLineOf
-        (layersWith (tierFrom (now (terms .entry))) (now (spent .entry))))))) (now (out .exit)) r
+        (layersHeld (tierFrom (now (terms .entry))) (now (held .entry))))))) (now (out .exit)) r
         × (r ≤ at + 200 * length (tierFrom (now (terms .entry)))) ⌝ }
 {
     let count = numbers::count(terms);
     let mut next = at;
     let mut i: usize = 0;
     while i < count {
-        let layer = numbers::layer_at(terms, spent, i);
+        let layer = numbers::layer_at(terms, held, i);
         i += 1;
         next = put_layer(out, next, kind, i as u64, layer);
     }

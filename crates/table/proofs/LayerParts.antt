@@ -1,4 +1,5 @@
--- A layer's line in its three parts, the beginning, the rates and the end: what was read of each makes the answer.
+-- A layer's line in its four parts, the beginning, the rates, the placed share and the tail: what was read of each
+-- makes the answer.
 -- Assumes nothing.
 use mathlib.Core.Path.{_≡_, refl, sym, ap, _∙_}
 use mathlib.Core.Bool.{true, false}
@@ -8,13 +9,13 @@ use Prim.Native.Nat.{ℕ, _-_, _≤_}
 use native.Mathlib.Omega.{arith}
 use lib.ListN.{length, take, drop, getD, length-drop, List·getD-append}
 use lib.Seq.{take-all}
-use Rattle.text.specs.Template.{capital, holes, eight, matched, matchedAt, wholeOf, lineNumbers}
+use Rattle.text.specs.Template.{capital, holes, eight, matched, matchedAt, lineNumbers}
 use Rattle.text.specs.Template.{numbersFrom, numbersBy}
 use Rattle.text.specs.declared.template.Place.the-variants.{At, Nowhere}
 use Rattle.text.specs.declared.template.Matched.{Matched}
 use Rattle.text.specs.declared.template.Numbers.{Numbers}
-use Rattle.text.proofs.Forms.{matched-read, line-read}
-use Rattle.text.proofs.Parts.{onward, behind, matched-parts, line-after}
+use Rattle.text.proofs.Forms.{matched-read}
+use Rattle.text.proofs.Parts.{onward, matched-parts, matched-after}
 use Rattle.text.proofs.Matching.{endOf, read-until, not-read, Found, match-found, match-missing}
 use Rattle.layer.specs.declared.terms.Terms.{Terms}
 use Rattle.layer.specs.Layer.{ratePlaces}
@@ -23,13 +24,16 @@ use Rattle.programme.specs.declared.contract.Kind.the-variants as kind
 use Rattle.programme.specs.Contracts.{contractOf}
 use Rattle.table_text.specs.declared.LineRead.{LineRead}
 use Rattle.table_text.specs.declared.Form.the-variants as form
-use Rattle.table_text.specs.Forms.{formRead, riskText, catText, endText, ratesText, termsFrom, layerNumbers}
-use Rattle.table_text.specs.Forms.{formIf, layerForm, kindOf, formOf}
+use Rattle.table_text.specs.Forms.{formRead, riskText, catText, endText, plainTail, timeTail, ratesText, termsFrom}
+use Rattle.table_text.specs.Forms.{layerNumbers, tailTime, layerTerms, formIf, layerForm, kindOf, formOf}
 use Rattle.table_text.proofs.LineKinds.{form-risk, form-cat}
-use Rattle.table_text.proofs.LayerLines.{rates-holes, terms-of, begin-missing, begin-found}
+use Rattle.table_text.proofs.LayerLines.{rates-holes, terms-of, begin-missing, begin-found, tail-plain, tail-timed}
+use Rattle.table_text.proofs.LayerLines.{tail-neither, numbers-missing, tail-missing, terms-found}
 use Rattle.table.specs.declared.form.RatesRead.{RatesRead}
 use Rattle.table.specs.declared.form.LayerRead.{LayerRead}
-use Rattle.table.specs.LayerLine.{ratesReadOf, ratesAt, noLayer, layerRead}
+use Rattle.table.specs.declared.form.Tail.{Tail}
+use Rattle.table.specs.declared.form.Tail.the-variants.{Time, NoTail}
+use Rattle.table.specs.LayerLine.{ratesReadOf, ratesAt, tailRead, noLayer, layerRead}
 
 -- a line read, by whether its layer was found
 module _ (read : LayerRead) (x : Kind) (r : LineRead) where
@@ -42,25 +46,75 @@ module _ (read : LayerRead) (x : Kind) (r : LineRead) where
   line-missing h e = rw (e, h)
 
 -- what a layer's line read is, as a form of its tier
-layer-form : (x : Kind) (o : Option (List ℕ)) (r : LayerRead) → r ≡ layerRead o
+layer-form : (x : Kind) (o : Option Terms) (r : LayerRead) → r ≡ layerRead o
     → formIf (r .found) (contractOf x (r .terms)) ≡ layerForm (contractOf x) o
 layer-form x none r e = rw e
-layer-form x (some v) r e = rw e
+layer-form x (some t) r e = rw e
 
 module _ (s : List ℕ) (k : ℕ) (q : k ≡ kindOf s) (read : LayerRead) (r : LineRead) where
-  pub risk-line : k ≡ 3 → read ≡ layerRead (layerNumbers riskText s)
+  pub risk-line : k ≡ 3 → read ≡ layerRead (layerTerms riskText s)
       → formRead r ≡ formIf (read .found) (contractOf kind.Risk (read .terms)) → formRead r ≡ formOf s
-  risk-line h e p = form-risk s k q h (formRead r) (p ∙ layer-form kind.Risk (layerNumbers riskText s) read e)
+  risk-line h e p = form-risk s k q h (formRead r) (p ∙ layer-form kind.Risk (layerTerms riskText s) read e)
 
-  pub cat-line : k ≡ 4 → read ≡ layerRead (layerNumbers catText s)
+  pub cat-line : k ≡ 4 → read ≡ layerRead (layerTerms catText s)
       → formRead r ≡ formIf (read .found) (contractOf kind.Cat (read .terms)) → formRead r ≡ formOf s
-  cat-line h e p = form-cat s k q h (formRead r) (p ∙ layer-form kind.Cat (layerNumbers catText s) read e)
+  cat-line h e p = form-cat s k q h (formRead r) (p ∙ layer-form kind.Cat (layerTerms catText s) read e)
 
--- the end of a line, which is read from a place to the end of the text
-pub end-read : (s : List ℕ) (at : ℕ) (n : Numbers) → n ≡ numbersBy endText (take (length s - at) (drop at s))
-    → n ≡ numbersBy endText (drop at s)
-end-read s at n e =
-    e ∙ ap (numbersBy endText) (take-all (length s - at) (drop at s) (omega (arith, length-drop at s)))
+-- whether a text is a line of a template, by what was read of it
+module _ (t s : List ℕ) (n : Numbers) (e : n ≡ numbersBy t s) where
+  is-no-line : n .found ≡ false → lineNumbers t s ≡ none
+  is-no-line h = by-numbers (lineNumbers t s) refl
+    where
+      by-numbers : (o : Option (List ℕ)) → lineNumbers t s ≡ o → lineNumbers t s ≡ none
+      by-numbers none q = q
+      by-numbers (some v) q =
+          let w : true ≡ false = sym (ap (λ (m : Numbers). m .found) (e ∙ ap numbersFrom q)) ∙ h in
+          let z : _≡_ {A = ℕ} 0 1 = cc in absurd (omega arith)
+
+  is-line : n .found ≡ true → (v : List ℕ) × (lineNumbers t s ≡ some v)
+  is-line h = by-numbers (lineNumbers t s) refl
+    where
+      by-numbers : (o : Option (List ℕ)) → lineNumbers t s ≡ o → (v : List ℕ) × (lineNumbers t s ≡ some v)
+      by-numbers none q =
+          let w : false ≡ true = sym (ap (λ (m : Numbers). m .found) (e ∙ ap numbersFrom q)) ∙ h in
+          let z : _≡_ {A = ℕ} 0 1 = cc in absurd (omega arith)
+      by-numbers (some v) q = (v, q)
+
+-- The tail of a line, from the place `at` on. Either template is tried on all that is left of the line.
+module _ (s : List ℕ) (at : ℕ) where
+  abbrev left : List ℕ
+  left = take (length s - at) (drop at s)
+
+  all-left : left ≡ drop at s
+  all-left = take-all (length s - at) (drop at s) (omega (arith, length-drop at s))
+
+  module _ (plain : Numbers) (e : plain ≡ numbersBy plainTail left) where
+    pub ends-plain : plain .found ≡ true → Time 0 ≡ tailRead (tailTime (drop at s))
+    ends-plain h =
+        let p = is-line plainTail left plain e h in
+        sym (ap tailRead (rw all-left at (tail-plain left (p .0) (p .1))))
+
+    module _ (no : plain .found ≡ false) (timed : Numbers) (f : timed ≡ numbersBy timeTail left) where
+      not-plain : lineNumbers plainTail left ≡ none
+      not-plain = is-no-line plainTail left plain e no
+
+      pub ends-timed : timed .found ≡ true → Time 1 ≡ tailRead (tailTime (drop at s))
+      ends-timed h =
+          let p = is-line timeTail left timed f h in
+          sym (ap tailRead (rw all-left at (tail-timed left not-plain (p .0) (p .1))))
+
+      pub ends-otherwise : timed .found ≡ false → NoTail ≡ tailRead (tailTime (drop at s))
+      ends-otherwise h =
+          sym (ap tailRead (rw all-left at (tail-neither left not-plain (is-no-line timeTail left timed f h))))
+
+-- the answer taken apart
+tail-none : (o : Option ℕ) → NoTail ≡ tailRead o → o ≡ none
+tail-none none e = refl
+tail-none (some w) e = let z : _≡_ {A = ℕ} 0 1 = cc in absurd (omega arith)
+
+tail-some : (o : Option ℕ) (w : ℕ) → Time w ≡ tailRead o → o ≡ some w
+tail-some none w e = let z : _≡_ {A = ℕ} 0 1 = cc in absurd (omega arith)
+tail-some (some v) w e = let same : v ≡ w = cc in ap some same
 
 -- the rates that were read at a place of a text: these numbers, and the place after them
 record RatesFound (s : List ℕ) (at k next : ℕ) (values : List ℕ) : Type 0 where
@@ -97,8 +151,8 @@ end-holes : holes endText ≡ 1
 unfolding holes capital
 end-holes = refl
 
--- the terms of five numbers, rates and one number more, as they were read
-layer-terms : (ns qs ms v w vs : List ℕ) → length ns ≡ 5 → length qs ≡ getD ns 3 0 → length ms ≡ 1
+-- the terms of five numbers, rates and one number more, as they were read, and of a time
+layer-terms : (ns qs ms v w vs : List ℕ) (time : ℕ) → length ns ≡ 5 → length qs ≡ getD ns 3 0 → length ms ≡ 1
     → v ≡ eight ns → w ≡ eight ms → vs ≡ ratePlaces qs
     → record {
       attachment = getD v 0 0;
@@ -108,45 +162,29 @@ layer-terms : (ns qs ms v w vs : List ℕ) → length ns ≡ 5 → length qs ≡
       premium = getD v 4 0;
       placed = getD w 0 0;
       rates = vs;
-    } ≡ termsFrom ((ns ++ qs) ++ ms)
-layer-terms [] qs ms v w vs n k m a b c = absurd (omega arith)
-layer-terms (x ∷ []) qs ms v w vs n k m a b c = absurd (omega arith)
-layer-terms (x ∷ y ∷ []) qs ms v w vs n k m a b c = absurd (omega arith)
-layer-terms (x ∷ y ∷ z ∷ []) qs ms v w vs n k m a b c = absurd (omega arith)
-layer-terms (x ∷ y ∷ z ∷ u ∷ []) qs ms v w vs n k m a b c = absurd (omega arith)
-layer-terms (x ∷ y ∷ z ∷ u ∷ p ∷ []) qs [] v w vs n k m a b c = absurd (omega arith)
-layer-terms (x ∷ y ∷ z ∷ u ∷ p ∷ []) qs (s ∷ []) v w vs n k m a b c = rw (a, b, c) (sym (terms-of x y z u p qs s k))
-layer-terms (x ∷ y ∷ z ∷ u ∷ p ∷ []) qs (s ∷ t ∷ ms) v w vs n k m a b c = absurd (omega arith)
-layer-terms (x ∷ y ∷ z ∷ u ∷ p ∷ o ∷ ns) qs ms v w vs n k m a b c = absurd (omega arith)
-
--- what the end of a line gives, from its numbers
-module _ (s : List ℕ) (last : Numbers) (f : last ≡ numbersBy endText s) where
-  end-missing : last .found ≡ false → lineNumbers endText s ≡ none
-  end-missing h = by-numbers (lineNumbers endText s) refl
-    where
-      by-numbers : (o : Option (List ℕ)) → lineNumbers endText s ≡ o → lineNumbers endText s ≡ none
-      by-numbers none e = e
-      by-numbers (some ms) e =
-          let w : true ≡ false = sym (ap (λ (n : Numbers). n .found) (f ∙ ap numbersFrom e)) ∙ h in
-          let z : _≡_ {A = ℕ} 0 1 = cc in absurd (omega arith)
-
-  end-found : last .found ≡ true → (ms : List ℕ) × (lineNumbers endText s ≡ some ms) × (last .values ≡ eight ms)
-  end-found h = by-numbers (lineNumbers endText s) refl
-    where
-      by-numbers : (o : Option (List ℕ)) → lineNumbers endText s ≡ o
-          → (ms : List ℕ) × (lineNumbers endText s ≡ some ms) × (last .values ≡ eight ms)
-      by-numbers none e =
-          let w : false ≡ true = sym (ap (λ (n : Numbers). n .found) (f ∙ ap numbersFrom e)) ∙ h in
-          let z : _≡_ {A = ℕ} 0 1 = cc in absurd (omega arith)
-      by-numbers (some ms) e = (ms, e, ap (λ (n : Numbers). n .values) (f ∙ ap numbersFrom e))
+      time = time;
+    } ≡ termsFrom ((ns ++ qs) ++ ms) time
+layer-terms [] qs ms v w vs t n k m a b c = absurd (omega arith)
+layer-terms (x ∷ []) qs ms v w vs t n k m a b c = absurd (omega arith)
+layer-terms (x ∷ y ∷ []) qs ms v w vs t n k m a b c = absurd (omega arith)
+layer-terms (x ∷ y ∷ z ∷ []) qs ms v w vs t n k m a b c = absurd (omega arith)
+layer-terms (x ∷ y ∷ z ∷ u ∷ []) qs ms v w vs t n k m a b c = absurd (omega arith)
+layer-terms (x ∷ y ∷ z ∷ u ∷ p ∷ []) qs [] v w vs t n k m a b c = absurd (omega arith)
+layer-terms (x ∷ y ∷ z ∷ u ∷ p ∷ []) qs (s ∷ []) v w vs t n k m a b c =
+    rw (a, b, c) (sym (terms-of x y z u p qs s t k))
+layer-terms (x ∷ y ∷ z ∷ u ∷ p ∷ []) qs (s ∷ r ∷ ms) v w vs t n k m a b c = absurd (omega arith)
+layer-terms (x ∷ y ∷ z ∷ u ∷ p ∷ o ∷ ns) qs ms v w vs t n k m a b c = absurd (omega arith)
 
 -- the answer, from what was read of the parts of a line
 module _ (begin s : List ℕ) (first : Matched) (q : first ≡ matchedAt begin s 0) where
-  answers-none : (r : LayerRead) → r ≡ noLayer → layerNumbers begin s ≡ none → r ≡ layerRead (layerNumbers begin s)
+  answers-none : (r : LayerRead) → r ≡ noLayer → layerTerms begin s ≡ none → r ≡ layerRead (layerTerms begin s)
   answers-none r a e = a ∙ sym (ap layerRead e)
 
-  pub no-beginning : (r : LayerRead) → r ≡ noLayer → first .place ≡ Nowhere → r ≡ layerRead (layerNumbers begin s)
-  no-beginning r a y = answers-none r a (begin-missing begin s (match-missing begin s 0 first q y))
+  no-numbers : (r : LayerRead) → r ≡ noLayer → layerNumbers begin s ≡ none → r ≡ layerRead (layerTerms begin s)
+  no-numbers r a e = answers-none r a (numbers-missing begin s e)
+
+  pub no-beginning : (r : LayerRead) → r ≡ noLayer → first .place ≡ Nowhere → r ≡ layerRead (layerTerms begin s)
+  no-beginning r a y = no-numbers r a (begin-missing begin s (match-missing begin s 0 first q y))
 
   module _ (at : ℕ) (y : first .place ≡ At at) where
     begun : Found begin s 0 at (first .values)
@@ -171,19 +209,17 @@ module _ (begin s : List ℕ) (first : Matched) (q : first ≡ matchedAt begin s
 
       -- the line's numbers, after those of its beginning
       onwards : layerNumbers begin s
-          ≡ wholeOf (onward (begun .numbers) endText (matched [] (ratesText (getD (begun .numbers) 3 0)) (drop at s)))
-      unfolding lineNumbers
+          ≡ onward (begun .numbers) endText (matched [] (ratesText (getD (begun .numbers) 3 0)) (drop at s))
       onwards =
           let ns = begun .numbers in
           let k = getD ns 3 0 in
           begin-found begin s ns (drop at s) (begun .read)
-          ∙ ap wholeOf (matched-parts begin (ratesText k ++ endText) [] s
+          ∙ matched-parts begin (ratesText k ++ endText) [] s
           ∙ ap (onward [] (ratesText k ++ endText)) (begun .read)
-          ∙ matched-parts (ratesText k) endText ns (drop at s))
+          ∙ matched-parts (ratesText k) endText ns (drop at s)
 
-      pub no-rates : (r : LayerRead) → r ≡ noLayer → back .place ≡ Nowhere → r ≡ layerRead (layerNumbers begin s)
-      unfolding wholeOf
-      no-rates r a z = answers-none r a (onwards ∙ rw (rates-missing s at _ back (e ∙ as-many) z))
+      pub no-rates : (r : LayerRead) → r ≡ noLayer → back .place ≡ Nowhere → r ≡ layerRead (layerTerms begin s)
+      no-rates r a z = no-numbers r a (onwards ∙ rw (rates-missing s at _ back (e ∙ as-many) z))
 
       module _ (end : ℕ) (z : back .place ≡ At end) where
         rated : RatesFound s at (getD (begun .numbers) 3 0) end (back .values)
@@ -192,36 +228,63 @@ module _ (begin s : List ℕ) (first : Matched) (q : first ≡ matchedAt begin s
         pub rates-within : end ≤ length s
         rates-within = rated .within
 
-        module _ (last : Numbers) (f : last ≡ numbersBy endText (drop end s)) where
+        many : length (rated .numbers) ≡ getD (begun .numbers) 3 0
+        many =
+            let f = matched-read (ratesText _) [] (drop at s) (rated .numbers) (drop end s) (rated .read) in
+            ap length (f .read) ∙ f .count ∙ rates-holes _
+
+        module _ (last : Matched) (f : last ≡ matchedAt endText s end) where
           -- after those of its rates
-          numbers : layerNumbers begin s
-              ≡ behind (begun .numbers ++ rated .numbers) (lineNumbers endText (drop end s))
-          numbers =
+          afterwards : layerNumbers begin s
+              ≡ onward (begun .numbers ++ rated .numbers) [] (matched [] endText (drop end s))
+          afterwards =
               onwards
-              ∙ rw (rated .read) (line-after endText (begun .numbers ++ rated .numbers) (drop end s))
+              ∙ rw (rated .read) (matched-after endText (begun .numbers ++ rated .numbers) (drop end s))
 
-          pub no-end : (r : LayerRead) → r ≡ noLayer → last .found ≡ false → r ≡ layerRead (layerNumbers begin s)
-          no-end r a h = answers-none r a (numbers ∙ rw (end-missing (drop end s) last f h))
+          pub no-end : (r : LayerRead) → r ≡ noLayer → last .place ≡ Nowhere → r ≡ layerRead (layerTerms begin s)
+          no-end r a h = no-numbers r a (afterwards ∙ rw (match-missing endText s end last f h))
 
-          pub whole-layer : last .found ≡ true → record {
-            found = true;
-            terms = record {
-              attachment = getD (first .values) 0 0;
-              limit = getD (first .values) 1 0;
-              deductible = getD (first .values) 2 0;
-              reinstatements = getD (first .values) 3 0;
-              premium = getD (first .values) 4 0;
-              placed = getD (last .values) 0 0;
-              rates = back .values;
-            };
-          } ≡ layerRead (layerNumbers begin s)
-          whole-layer h =
-              let m = end-found (drop end s) last f h in
-              let rates = matched-read (ratesText _) [] (drop at s) (rated .numbers) (drop end s) (rated .read) in
-              let many = ap length (rates .read) ∙ rates .count ∙ rates-holes _ in
-              let one = line-read endText (drop end s) (m .0) (m .1) .1 ∙ end-holes in
-              let terms =
-              layer-terms (begun .numbers) (rated .numbers) (m .0) (first .values) (last .values) (back .values)
-              five many one (begun .padded) (m .2) (rated .kept) in
-              ap (λ (t : Terms). record { found = true; terms = t }) terms
-              ∙ sym (ap layerRead (numbers ∙ ap (behind (begun .numbers ++ rated .numbers)) (m .1)))
+          module _ (over : ℕ) (w : last .place ≡ At over) where
+            placed : Found endText s end over (last .values)
+            placed = match-found endText s end last f over rates-within w
+
+            pub end-within : over ≤ length s
+            end-within = placed .within
+
+            one : length (placed .numbers) ≡ 1
+            one =
+                let g = matched-read endText [] (drop end s) (placed .numbers) (drop over s) (placed .read) in
+                ap length (g .read) ∙ g .count ∙ end-holes
+
+            -- all of them, and what is left
+            numbers : layerNumbers begin s
+                ≡ some ((begun .numbers ++ rated .numbers) ++ placed .numbers, drop over s)
+            unfolding matched
+            numbers = afterwards ∙ rw (placed .read)
+
+            module _ (tail : Tail) (t : tail ≡ tailRead (tailTime (drop over s))) where
+              pub no-tail : (r : LayerRead) → r ≡ noLayer → tail ≡ NoTail → r ≡ layerRead (layerTerms begin s)
+              no-tail r a h =
+                  answers-none r a (tail-missing begin s _ (drop over s) numbers
+                  (tail-none (tailTime (drop over s)) (sym h ∙ t)))
+
+              pub whole-layer : (time : ℕ) → tail ≡ Time time → record {
+                found = true;
+                terms = record {
+                  attachment = getD (first .values) 0 0;
+                  limit = getD (first .values) 1 0;
+                  deductible = getD (first .values) 2 0;
+                  reinstatements = getD (first .values) 3 0;
+                  premium = getD (first .values) 4 0;
+                  placed = getD (last .values) 0 0;
+                  rates = back .values;
+                  time = time;
+                };
+              } ≡ layerRead (layerTerms begin s)
+              whole-layer time h =
+                  let found =
+                  terms-found begin s _ (drop over s) numbers time
+                  (tail-some (tailTime (drop over s)) time (sym h ∙ t)) in
+                  rw found (ap (λ (x : Terms). layerRead (some x))
+                  (layer-terms (begun .numbers) (rated .numbers) (placed .numbers) (first .values) (last .values)
+                  (back .values) time five many one (begun .padded) (placed .padded) (rated .kept)))

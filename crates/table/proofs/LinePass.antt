@@ -224,7 +224,7 @@ module _ {s : List ℕ} {ts : List Treaty} {rs cs : List Terms} {before : Before
       rest = ahead (kind.Proportional t) u;
     })
 
-  -- a risk layer enters; 208 bytes a place
+  -- a risk layer enters; 216 bytes a place
   module _ (u : x ≡ kind.Risk) where
     risk-few : before .risk .count < 8
     risk-few = layer-faultless _ _ (read .terms) (faultless kind.Risk u) .few
@@ -235,7 +235,7 @@ module _ {s : List ℕ} {ts : List Treaty} {rs cs : List Terms} {before : Before
     pub risk-place : k < 8
     risk-place = omega (arith, risk-at, risk-few)
 
-    pub risk-offset : Fits w64 (k * 208)
+    pub risk-offset : Fits w64 (k * 216)
     risk-offset = omega (arith, risk-place)
 
     pub risk-enters : Going s ts (set rs k (read .terms)) cs next (number + 1) (e + 1)
@@ -264,7 +264,7 @@ module _ {s : List ℕ} {ts : List Treaty} {rs cs : List Terms} {before : Before
     pub cat-place : k < 8
     cat-place = omega (arith, cat-at, cat-few)
 
-    pub cat-offset : Fits w64 (k * 208)
+    pub cat-offset : Fits w64 (k * 216)
     cat-offset = omega (arith, cat-place)
 
     pub cat-enters : Going s ts rs (set cs k (read .terms)) next (number + 1) (e + 1)

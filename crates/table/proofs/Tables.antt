@@ -1,7 +1,7 @@
 -- Laws of a table text: its parts, and a pass over places that puts a line for each.
 -- Assumes nothing.
 use mathlib.Core.Path.{_≡_, sym, _∙_}
-use mathlib.Core.Bool.{true}
+use mathlib.Core.Bool.{Bool, true, false}
 use mathlib.Core.List.{List, [], _∷_, _++_, map, map-map, map-append, append-assoc}
 use Prim.Native.Nat.{ℕ, suc, _+_, _*_, _^_, _≤_, _<_}
 use native.Mathlib.Nat.{le-refl, mul-le-mul-right}
@@ -21,6 +21,7 @@ use Rattle.text.proofs.Pieces.{filled-append}
 use Rattle.text.proofs.Feeds.{joined-append}
 use Rattle.treaty.specs.declared.Treaty.{Treaty}
 use Rattle.layer.specs.declared.terms.Terms.{Terms}
+use Rattle.layer.specs.Layer.{isTimed}
 use Rattle.programme.specs.declared.contract.Layers.{Layers}
 use Rattle.programme.specs.declared.contract.Programme.{Programme}
 use Rattle.programme.specs.Contracts.{Contracts, treatiesIn, layersIn, contractsIn}
@@ -30,8 +31,8 @@ use Rattle.programme.specs.Valid.{layerPasses, termsUnused, validLayers, valid}
 use Rattle.programme.proofs.Bounds.{terms-in-range}
 use Rattle.programme.proofs.Validity.{places-tell, layers-tell, valid-tells}
 use Rattle.programme.proofs.Lawful.{layer-passed}
-use Rattle.table_text.specs.Forms.{quotaText, surplusText, riskText, catText, endText, ratesText, quotaNumbers}
-use Rattle.table_text.specs.Forms.{surplusNumbers, treatyLine, termsLine, tableOf}
+use Rattle.table_text.specs.Forms.{quotaText, surplusText, riskText, catText, endText, plainTail, timeTail, ratesText}
+use Rattle.table_text.specs.Forms.{quotaNumbers, surplusNumbers, treatyLine, tailOf, termsLine, tableOf}
 use Rattle.table_text.specs.Write.{textOf}
 use Rattle.table_text.proofs.LayerLines.{rates-holes}
 
@@ -61,7 +62,7 @@ module _ (t : Treaty) {d d′ : List ℕ} {at next : ℕ} where
   unfolding treatyLine
   quota-put e p = simp (treatyLine, ne-eqb (t .kind) 2 e) p
 
--- a layer's line in its three parts
+-- a layer's line in its four parts
 abbrev firsts : Terms → List ℕ
 firsts l = l .attachment ∷ l .limit ∷ l .deductible ∷ l .reinstatements ∷ l .premium ∷ []
 
@@ -71,26 +72,36 @@ ratesIn l = take (l .reinstatements) (l .rates)
 terms-parts : (begin : List ℕ) (l : Terms) → holes begin ≡ 5 → l .reinstatements ≤ 20 → length (l .rates) ≡ 20
     → termsLine begin l
     ≡ filled begin (firsts l) []
-    ++ (filled (ratesText (l .reinstatements)) (ratesIn l) [] ++ filled endText (l .placed ∷ []) [])
+    ++ (filled (ratesText (l .reinstatements)) (ratesIn l) [] ++ (filled endText (l .placed ∷ []) [] ++ tailOf l))
 terms-parts begin l five few long =
     let k = l .reinstatements in
     let ns = firsts l in
     let qs = ratesIn l in
     let many : length qs ≡ holes (ratesText k) =
     length-take-le k (l .rates) (omega arith) ∙ sym (rates-holes k) in
-    filled-parts begin (ratesText k ++ endText) ns (qs ++ (l .placed ∷ [])) [] (sym five)
-    ∙ rw (filled-parts (ratesText k) endText qs (l .placed ∷ []) [] many)
-    (filled-append begin ns (filled (ratesText k) qs (filled endText (l .placed ∷ []) []))
-    ∙ rw (filled-append (ratesText k) qs (filled endText (l .placed ∷ []) [])))
+    let end = filled endText (l .placed ∷ []) (tailOf l) in
+    filled-parts begin (ratesText k ++ endText) ns (qs ++ (l .placed ∷ [])) (tailOf l) (sym five)
+    ∙ rw (filled-parts (ratesText k) endText qs (l .placed ∷ []) (tailOf l) many)
+    (filled-append begin ns (filled (ratesText k) qs end)
+    ∙ rw (filled-append (ratesText k) qs end, filled-append endText (l .placed ∷ []) (tailOf l)))
 
 pub terms-put : (begin : List ℕ) (l : Terms) → holes begin ≡ 5 → l .reinstatements ≤ 20 → length (l .rates) ≡ 20
-    → {d d′ d″ d‴ : List ℕ} {at first second end : ℕ}
+    → {d d′ d″ d‴ d⁗ : List ℕ} {at first second third end : ℕ}
     → Put d at (filled begin (firsts l) []) d′ first
     → Put d′ first (filled (ratesText (l .reinstatements)) (ratesIn l) []) d″ second
-    → Put d″ second (filled endText (l .placed ∷ []) [] ++ (10 ∷ [])) d‴ end
-    → Put d at (termsLine begin l ++ (10 ∷ [])) d‴ end
-terms-put begin l five few long p q r =
-    rw (terms-parts begin l five few long) (simp append-assoc (put-append p (put-append q r)))
+    → Put d″ second (filled endText (l .placed ∷ []) []) d‴ third
+    → Put d‴ third (tailOf l ++ (10 ∷ [])) d⁗ end
+    → Put d at (termsLine begin l ++ (10 ∷ [])) d⁗ end
+terms-put begin l five few long p q r s =
+    rw (terms-parts begin l five few long) (simp append-assoc (put-append p (put-append q (put-append r s))))
+
+-- a tail and the line feed, by whether the layer has (time)
+module _ (l : Terms) (t : Bool) (e : t ≡ isTimed l) {d d′ : List ℕ} {at next : ℕ} where
+  pub time-put : t ≡ true → Put d at (timeTail ++ (10 ∷ [])) d′ next → Put d at (tailOf l ++ (10 ∷ [])) d′ next
+  time-put h p = rw (← e, h) p
+
+  pub plain-put : t ≡ false → Put d at (plainTail ++ (10 ∷ [])) d′ next → Put d at (tailOf l ++ (10 ∷ [])) d′ next
+  plain-put h p = rw (← e, h) p
 
 -- in a valid programme every layer has at most twenty reinstatements
 pub few-used : (ls : Layers) → validLayers ls ≡ true → (i : ℕ) → i < ls .count → (x : Terms)

@@ -7,11 +7,14 @@ use Prim.Native.Nat.{ℕ, _-_}
 use lib.ListN.{length, drop}
 use Rattle.text.specs.Template.{matched}
 use Rattle.text.specs.declared.template.Place.the-variants.{At, Nowhere}
+use Rattle.layer.specs.declared.terms.Terms.{Terms}
 use Rattle.layer.specs.Layer.{ratePlaces}
 use Rattle.programme.specs.Contracts.{noTerms}
-use Rattle.table_text.specs.Forms.{ratesText, termsFrom}
+use Rattle.table_text.specs.Forms.{ratesText}
 use Rattle.table.specs.declared.form.RatesRead.{RatesRead}
 use Rattle.table.specs.declared.form.LayerRead.{LayerRead}
+use Rattle.table.specs.declared.form.Tail.{Tail}
+use Rattle.table.specs.declared.form.Tail.the-variants.{Time, NoTail}
 
 -- not as many rates
 abbrev pub noRates : RatesRead
@@ -26,11 +29,16 @@ ratesReadOf n (some p) = record { place = At (n - length (p .1)); values = rateP
 unfoldable pub ratesAt : List ℕ → ℕ → ℕ → RatesRead
 ratesAt s at k = ratesReadOf (length s) (matched [] (ratesText k) (drop at s))
 
+-- what was read of a tail
+abbrev pub tailRead : Option ℕ → Tail
+tailRead none = NoTail
+tailRead (some w) = Time w
+
 -- no layer
 abbrev pub noLayer : LayerRead
 noLayer = record { found = false; terms = noTerms }
 
--- the terms of a layer's numbers
-abbrev pub layerRead : Option (List ℕ) → LayerRead
+-- a layer's terms, where a line is its form
+abbrev pub layerRead : Option Terms → LayerRead
 layerRead none = noLayer
-layerRead (some v) = record { found = true; terms = termsFrom v }
+layerRead (some t) = record { found = true; terms = t }

@@ -2,11 +2,11 @@
 ghost use mathlib.Core.Path.{_≡_};
 ghost use Prim.Native.Nat.{_≤_};
 ghost use lib.ListN.{length, drop};
-ghost use Rattle.text.specs.Template.{holes, numbersBy};
+ghost use Rattle.text.specs.Template.{holes, matchedAt};
 ghost use Rattle.programme.specs.Contracts.{contractOf};
-ghost use Rattle.table_text.specs.Forms.{kindOf, quotaForm, surplusForm, endText, layerNumbers};
+ghost use Rattle.table_text.specs.Forms.{kindOf, quotaForm, surplusForm, endText, tailTime, layerTerms};
 ghost use Rattle.table_text.specs.Forms.{formIf, formRead, formOf};
-ghost use Rattle.table.specs.LayerLine.{ratesAt, noRates, layerRead, noLayer};
+ghost use Rattle.table.specs.LayerLine.{ratesAt, noRates, tailRead, layerRead, noLayer};
 use layer::terms::RATES;
 use layer::terms::Terms;
 use programme::contract;
@@ -16,6 +16,7 @@ use table_text::LineRead;
 use text::number;
 use text::number::Number;
 use text::template;
+use text::template::Matched;
 use text::template::Numbers;
 use text::template::Place;
 use treaty::Treaty;
@@ -161,18 +162,40 @@ fn no_layer() -> LayerRead
     }
 }
 
-// The end of a layer's line, from a place on.
-fn end(line: &[u8], at: usize) -> Numbers
+// The placed share of a layer's line, at a place.
+fn end(line: &[u8], at: usize) -> Matched
     requires { ⌜ at ≤ length (now line) ⌝ }
-    ensures { λ r. ⌜ r ≡ numbersBy endText (drop at (now (line .entry))) ⌝ }
+    ensures { λ r. ⌜ r ≡ matchedAt endText (now (line .entry)) at ⌝ }
 {
-    template::read_line(b") (placed S))", &line[at..])
+    template::read_at(b") (placed S)", line, at)
 }
 
-// Reads a layer's line, by the beginning of its tier: K and the premium, as many rates, the placed share.
+// What ends a layer's line: 1 where it has (time), 0 where it has not; or no such thing.
+enum Tail {
+    Time(u64),
+    NoTail,
+}
+
+// What ends it from a place on.
+fn tail_time(line: &[u8], at: usize) -> Tail
+    requires { ⌜ at ≤ length (now line) ⌝ }
+    ensures { λ r. ⌜ r ≡ tailRead (tailTime (drop at (now (line .entry)))) ⌝ }
+{
+    let plain = template::read_line(b")", &line[at..]);
+    if plain.found {
+        return Tail::Time(0);
+    }
+    let timed = template::read_line(b" (time))", &line[at..]);
+    if timed.found {
+        return Tail::Time(1);
+    }
+    Tail::NoTail
+}
+
+// Reads a layer's line, by the beginning of its tier: K and the premium, as many rates, the placed share, the tail.
 fn layer(begin: &[u8], line: &[u8]) -> LayerRead
     requires { ⌜ holes (now begin) ≡ 5 ⌝ }
-    ensures { λ r. ⌜ r ≡ layerRead (layerNumbers (now (begin .entry)) (now (line .entry))) ⌝ }
+    ensures { λ r. ⌜ r ≡ layerRead (layerTerms (now (begin .entry)) (now (line .entry))) ⌝ }
 {
     let first = template::read_at(begin, line, 0);
     let place = first.place;
@@ -186,23 +209,29 @@ fn layer(begin: &[u8], line: &[u8]) -> LayerRead
         return no_layer();
     };
     let last = end(line, after);
-    if last.found {
-        let s = last.values;
-        let rates = back.values;
-        return LayerRead {
-            found: true,
-            terms: Terms {
-                attachment: v[0],
-                limit: v[1],
-                deductible: v[2],
-                reinstatements: v[3],
-                premium: v[4],
-                placed: s[0],
-                rates,
-            },
-        };
+    let place = last.place;
+    let Place::At(left) = place else {
+        return no_layer();
+    };
+    let ended = tail_time(line, left);
+    let Tail::Time(time) = ended else {
+        return no_layer();
+    };
+    let s = last.values;
+    let rates = back.values;
+    LayerRead {
+        found: true,
+        terms: Terms {
+            attachment: v[0],
+            limit: v[1],
+            deductible: v[2],
+            reinstatements: v[3],
+            premium: v[4],
+            placed: s[0],
+            rates,
+            time,
+        },
     }
-    no_layer()
 }
 
 // A layer's line of a kind, or no form.

@@ -9,7 +9,7 @@ ghost use Rattle.text.specs.Lines.{joined};
 ghost use Rattle.text.specs.Template.{holes, filled};
 ghost use Rattle.programme.specs.Contracts.{treatiesIn, layersIn};
 ghost use Rattle.programme.specs.Valid.{validLayers, valid};
-ghost use Rattle.table_text.specs.Forms.{rateText, ratesText, treatyLine, termsLine};
+ghost use Rattle.table_text.specs.Forms.{rateText, ratesText, treatyLine, tailOf, termsLine};
 ghost use Rattle.table_text.specs.Write.{textOf};
 use layer::terms::RATES;
 use layer::terms::Terms;
@@ -92,6 +92,17 @@ fn put_rates(out: &mut [u8], at: usize, rates: [u64; RATES], count: usize) -> us
     next
 }
 
+// The tail of a layer's line, and the line feed.
+fn put_tail(out: &mut [u8], at: usize, l: Terms) -> usize
+    requires { ⌜ at < 2 ^ 61 ⌝ }
+    ensures { λ r. ⌜ Put (now (out .entry)) at (tailOf l ++ (10 ∷ [])) (now (out .exit)) r × (r ≤ at + 9) ⌝ }
+{
+    if l.is_timed() {
+        return buffer::put_bytes(out, at, b" (time))\n");
+    }
+    buffer::put_bytes(out, at, b")\n")
+}
+
 // A layer's line, by the beginning of its tier: as many rates as its K.
 fn put_terms(out: &mut [u8], at: usize, begin: &[u8], l: Terms) -> usize
     requires { ⌜ (at < 2 ^ 59) × (holes (now begin) ≡ 5) × (length (now begin) < 60) × (l .reinstatements ≤ 20) ⌝ }
@@ -112,7 +123,8 @@ fn put_terms(out: &mut [u8], at: usize, begin: &[u8], l: Terms) -> usize
     );
     let rates = l.rates;
     let second = put_rates(out, first, rates, l.reinstatements as usize);
-    put_line(out, second, b") (placed S))", &[l.placed])
+    let third = template::put(out, second, b") (placed S)", &[l.placed]);
+    put_tail(out, third, l)
 }
 
 // The lines of a tier's layers.

@@ -23,8 +23,8 @@ use Rattle.programme.specs.Valid.{validTreaties, validLayers, valid}
 use Rattle.programme.proofs.Corners.{zeroTerms, nothingHeld, allContracts, allHeld, eightTerms, withRisk}
 use Rattle.table_text.specs.declared.Reading.{Reading}
 use Rattle.table_text.specs.declared.Form.the-variants as form
-use Rattle.table_text.specs.Forms.{Line, NoForm, formRead}
-use Rattle.table_text.specs.Forms.{ratesText, layerNumbers, kindOf, formOfKind, formOf, treatyLine}
+use Rattle.table_text.specs.Forms.{Line, NoForm, formRead, ratesText, layerNumbers, tailTime, layerTerms}
+use Rattle.table_text.specs.Forms.{kindOf, formOfKind, formOf, treatyLine}
 use Rattle.table_text.specs.Read.{refusedAt, readAs, readFrom, readOf}
 use Rattle.table_text.specs.Write.{writeOf}
 
@@ -46,8 +46,8 @@ abbrev sidneyContracts : Contracts
 sidneyContracts = record {
   treaties = [];
   risk = [];
-  cat = termsOf 25000000 75000000 75000000 0 0 [] 10000 ∷ termsOf 100000000 150000000 0 1 75000000 (5000 ∷ []) 8000
-      ∷ termsOf 250000000 150000000 0 1 30000000 (10000 ∷ []) 7200 ∷ [];
+  cat = termsOf 25000000 75000000 75000000 0 0 [] 10000 0 ∷ termsOf 100000000 150000000 0 1 75000000 (5000 ∷ []) 8000 0
+      ∷ termsOf 250000000 150000000 0 1 30000000 (10000 ∷ []) 7200 0 ∷ [];
 }
 
 -- eight risk layers, each at the end of the band before
@@ -104,32 +104,36 @@ notLawful = record {
   treaties = allHeld .treaties;
   risk = allHeld .risk;
   cat = record {
-    places = termsOf 40 0 0 1 1000000000000 (5000 ∷ []) 7200 ∷ replicate 7 zeroTerms;
+    places = termsOf 40 0 0 1 1000000000000 (5000 ∷ []) 7200 0 ∷ replicate 7 zeroTerms;
     count = 1;
   };
 }
 
--- the 311 bytes of the table of every form
+-- the 318 bytes of the table of every form
 abbrev allBytes : List ℕ
 allBytes =
     bytes "(quota 2 (cede 4000) (capacity 20000) (event 15000))\n"
     ++ bytes "(surplus 5 (retain 10000) (lines 3) (event 0))\n"
     ++ bytes "(risk (band 50 51) (deduct 7) (back 1 9 20000) (placed 3333))\n"
     ++ bytes "(cat (band 40 60) (deduct 0) (back 20 1000000000000 5000 1 20000 7 10000 3333 9999 12"
-    ++ bytes " 15000 2 750 19999 40 6000 8 2500 11111 90 17 3) (placed 7200))\n"
+    ++ bytes " 15000 2 750 19999 40 6000 8 2500 11111 90 17 3) (placed 7200) (time))\n"
 
 -- two lines of 42 bytes, the second with the T of the first
 abbrev twice : List ℕ
 twice =
     bytes "(quota 3 (cede 0) (capacity 0) (event 0))\n" ++ bytes "(quota 3 (cede 0) (capacity 0) (event 1))\n"
 
--- a text of one cat layer's line, by what is in its back, and the programme of such a layer: its K, its premium, and
--- its rates in twenty places
+-- a text of one cat layer's line, by what is in its back or by what follows its placed share, and the programme of such
+-- a layer: its K, its premium, its rates in twenty places, and 1 with (time)
 abbrev backText : String → List ℕ
 backText back = bytes "(cat (band 40 60) (deduct 11) (back " ++ bytes back ++ bytes ") (placed 7200))\n"
 
-abbrev oneCat : (k p : ℕ) → List ℕ → Programme
-oneCat k p qs =
+abbrev endedBy : String → List ℕ
+endedBy tail =
+    bytes "(cat (band 40 60) (deduct 11) (back 1 5000 10000) (placed 7200)" ++ bytes tail ++ bytes "\n"
+
+abbrev oneCat : (k p : ℕ) → List ℕ → (w : ℕ) → Programme
+oneCat k p qs w =
     withCat 1 (record {
       attachment = 40;
       limit = 60;
@@ -138,17 +142,45 @@ oneCat k p qs =
       premium = p;
       placed = 7200;
       rates = qs;
+      time = w;
     } ∷ replicate 7 zeroTerms)
+
+-- a risk layer without a rate and with (time)
+abbrev timedRisk : Programme
+timedRisk =
+    withRisk 1 (record {
+      attachment = 7;
+      limit = 3;
+      deductible = 0;
+      reinstatements = 0;
+      premium = 9;
+      placed = 3333;
+      rates = replicate 20 0;
+      time = 1;
+    } ∷ replicate 7 zeroTerms)
+
+-- a place that holds 0 but for (time)
+abbrev onlyTime : Terms
+onlyTime = record {
+  attachment = 0;
+  limit = 0;
+  deductible = 0;
+  reinstatements = 0;
+  premium = 0;
+  placed = 0;
+  rates = replicate 20 0;
+  time = 1;
+}
 
 pub record Corners : Type 0 where
   -- what a line that was read is: its kind, with a layer's terms from beside it
   pub lines-read : map formRead
       (record { form = form.Line (kind.Proportional (quotaOf 2 4000 7 9)); terms = noTerms }
-      ∷ record { form = form.Line kind.Risk; terms = termsOf 7 1 2 1 3 (4 ∷ []) 5 }
-      ∷ record { form = form.Line kind.Cat; terms = termsOf 7 1 2 1 3 (4 ∷ []) 5 }
-      ∷ record { form = form.NoForm; terms = termsOf 7 1 2 1 3 (4 ∷ []) 5 } ∷ [])
-      ≡ Line (Proportional (quotaOf 2 4000 7 9)) ∷ Line (Risk (termsOf 7 1 2 1 3 (4 ∷ []) 5))
-      ∷ Line (Cat (termsOf 7 1 2 1 3 (4 ∷ []) 5)) ∷ NoForm ∷ []
+      ∷ record { form = form.Line kind.Risk; terms = termsOf 7 1 2 1 3 (4 ∷ []) 5 0 }
+      ∷ record { form = form.Line kind.Cat; terms = termsOf 7 1 2 1 3 (4 ∷ []) 5 0 }
+      ∷ record { form = form.NoForm; terms = termsOf 7 1 2 1 3 (4 ∷ []) 5 0 } ∷ [])
+      ≡ Line (Proportional (quotaOf 2 4000 7 9)) ∷ Line (Risk (termsOf 7 1 2 1 3 (4 ∷ []) 5 0))
+      ∷ Line (Cat (termsOf 7 1 2 1 3 (4 ∷ []) 5 0)) ∷ NoForm ∷ []
   -- What reading answers, typed out to the places: a programme with its contracts in the first of eight ..
   pub answer-read : readOf allBytes ≡ record { refusal = 0; line = 0; programme = allHeld }
   pub answer-empty : readOf [] ≡ record { refusal = 0; line = 0; programme = nothingHeld }
@@ -166,14 +198,14 @@ pub record Corners : Type 0 where
       ≡ record { refusal = 4; line = 2; programme = nothingHeld }
   pub answer-long : readOf (twice ++ replicate 8109 120) ≡ record { refusal = 1; line = 0; programme = nothingHeld }
   -- what writing answers, and the buffer after it: the text before the bytes left, or as lent
-  pub answer-written : answerOf (writeOf allHeld 316) ≡ record { refusal = 0; number = 311 }
-  pub answer-exact : answerOf (writeOf allHeld 311) ≡ record { refusal = 0; number = 311 }
-  pub answer-short : answerOf (writeOf allHeld 310) ≡ record { refusal = 7; number = 311 }
-  pub answer-not-lawful : answerOf (writeOf notLawful 316) ≡ record { refusal = 6; number = 0 }
-  pub buffer-written : bufferAfter (writeOf allHeld 316) (replicate 316 7) ≡ allBytes ++ (7 ∷ 7 ∷ 7 ∷ 7 ∷ 7 ∷ [])
-  pub buffer-exact : bufferAfter (writeOf allHeld 311) (replicate 311 7) ≡ allBytes
-  pub buffer-short : bufferAfter (writeOf allHeld 310) (replicate 310 7) ≡ replicate 310 7
-  pub buffer-not-lawful : bufferAfter (writeOf notLawful 316) (replicate 316 7) ≡ replicate 316 7
+  pub answer-written : answerOf (writeOf allHeld 323) ≡ record { refusal = 0; number = 318 }
+  pub answer-exact : answerOf (writeOf allHeld 318) ≡ record { refusal = 0; number = 318 }
+  pub answer-short : answerOf (writeOf allHeld 317) ≡ record { refusal = 7; number = 318 }
+  pub answer-not-lawful : answerOf (writeOf notLawful 323) ≡ record { refusal = 6; number = 0 }
+  pub buffer-written : bufferAfter (writeOf allHeld 323) (replicate 323 7) ≡ allBytes ++ (7 ∷ 7 ∷ 7 ∷ 7 ∷ 7 ∷ [])
+  pub buffer-exact : bufferAfter (writeOf allHeld 318) (replicate 318 7) ≡ allBytes
+  pub buffer-short : bufferAfter (writeOf allHeld 317) (replicate 317 7) ≡ replicate 317 7
+  pub buffer-not-lawful : bufferAfter (writeOf notLawful 323) (replicate 323 7) ≡ replicate 323 7
   -- no line, every form, and the table of H1
   pub empty : reading [] ≡ readAs (programmeOf noContracts)
   pub every-form : readOf allBytes ≡ readAs (programmeOf allContracts)
@@ -191,11 +223,11 @@ pub record Corners : Type 0 where
   pub number-9 : reading ("(surplus 9 (retain 0) (lines 0) (event 0))" ∷ []) ≡ refusedAt 3 1
   pub sixteen-digits : reading ("(quota 1 (cede 9999999999999999) (capacity 0) (event 0))" ∷ []) ≡ refusedAt 3 1
   -- a layer's K, its premium and as many rates: none, one, two, and at most twenty
-  pub rates-none : readOf (backText "0 9") ≡ readAs (oneCat 0 9 (replicate 20 0))
-  pub rates-one : readOf (backText "1 5000 10000") ≡ readAs (oneCat 1 5000 (10000 ∷ replicate 19 0))
-  pub rates-two : readOf (backText "2 7 20000 0") ≡ readAs (oneCat 2 7 (20000 ∷ 0 ∷ replicate 18 0))
+  pub rates-none : readOf (backText "0 9") ≡ readAs (oneCat 0 9 (replicate 20 0) 0)
+  pub rates-one : readOf (backText "1 5000 10000") ≡ readAs (oneCat 1 5000 (10000 ∷ replicate 19 0) 0)
+  pub rates-two : readOf (backText "2 7 20000 0") ≡ readAs (oneCat 2 7 (20000 ∷ 0 ∷ replicate 18 0) 0)
   pub rates-ten : readOf (backText "10 7 1 2 3 4 5 6 7 8 9 10")
-      ≡ readAs (oneCat 10 7 (1 ∷ 2 ∷ 3 ∷ 4 ∷ 5 ∷ 6 ∷ 7 ∷ 8 ∷ 9 ∷ 10 ∷ replicate 10 0))
+      ≡ readAs (oneCat 10 7 (1 ∷ 2 ∷ 3 ∷ 4 ∷ 5 ∷ 6 ∷ 7 ∷ 8 ∷ 9 ∷ 10 ∷ replicate 10 0) 0)
   -- 2: a rate less or more than K, also where K itself is out of range; a blank without a number
   pub rate-missing : readOf (backText "2 7 20000") ≡ refusedAt 2 1
   pub rate-more : readOf (backText "2 7 20000 0 0") ≡ refusedAt 2 1
@@ -209,6 +241,28 @@ pub record Corners : Type 0 where
   pub rate-high : readOf (backText "2 0 20000 20001") ≡ refusedAt 3 1
   pub rate-of-16-digits : readOf (backText "1 0 9999999999999999") ≡ refusedAt 3 1
   pub rate-and-premium : readOf (backText "1 5000 75000000") ≡ refusedAt 3 1
+  -- (time) after placed, in a line of either tier, with rates and without
+  pub time-none : readOf (endedBy ")") ≡ readAs (oneCat 1 5000 (10000 ∷ replicate 19 0) 0)
+  pub time-cat : readOf (endedBy " (time))") ≡ readAs (oneCat 1 5000 (10000 ∷ replicate 19 0) 1)
+  pub time-risk : readOf (bytes "(risk (band 7 3) (deduct 0) (back 0 9) (placed 3333) (time))\n") ≡ readAs timedRisk
+  -- 2: another word or a number in it, twice, without its blank, with one too many, or without the last bracket
+  pub time-other : map (λ (tail : String). readOf (endedBy tail))
+      (" (time ))" ∷ " ( time))" ∷ " (time 1))" ∷ " (times))" ∷ " (Time))" ∷ " (tim))" ∷ " ())" ∷ [])
+      ≡ replicate 7 (refusedAt 2 1)
+  pub time-twice : readOf (endedBy " (time) (time))") ≡ refusedAt 2 1
+  pub time-blanks : map (λ (tail : String). readOf (endedBy tail))
+      ("(time))" ∷ "  (time))" ∷ " (time) )" ∷ " (time)) " ∷ " )" ∷ []) ≡ replicate 5 (refusedAt 2 1)
+  pub time-bracket : map (λ (tail : String). readOf (endedBy tail))
+      (" (time)" ∷ " (time)))" ∷ " time)" ∷ "" ∷ "))" ∷ []) ≡ replicate 5 (refusedAt 2 1)
+  -- before placed, and in a treaty's line
+  pub time-early : map (λ (line : String). reading (line ∷ []))
+      ("(cat (band 40 60) (deduct 11) (back 1 5000 10000) (time) (placed 7200))"
+      ∷ "(risk (band 40 60) (deduct 11) (time) (back 0 0) (placed 7200))" ∷ [])
+      ≡ replicate 2 (refusedAt 2 1)
+  pub time-treaty : map (λ (line : String). reading (line ∷ []))
+      ("(quota 3 (cede 0) (capacity 0) (event 0) (time))"
+      ∷ "(surplus 3 (retain 0) (lines 0) (event 0) (time))" ∷ [])
+      ≡ replicate 2 (refusedAt 2 1)
   -- 4: a treaty after a layer, a risk layer after a cat layer, T not above the one before
   pub treaty-late :
       reading ("(cat (band 0 1) (deduct 0) (back 0 0) (placed 0))"
@@ -257,7 +311,7 @@ pub record Corners : Type 0 where
       ∷ "(risk (band 100 1) (deduct 0) (back 0 0) (placed 0))" ∷ [])
       ≡ readAs (programmeOf (record {
         treaties = [];
-        risk = termsOf 50 50 0 0 0 [] 0 ∷ termsOf 100 1 0 0 0 [] 0 ∷ [];
+        risk = termsOf 50 50 0 0 0 [] 0 0 ∷ termsOf 100 1 0 0 0 [] 0 0 ∷ [];
         cat = [];
       }))
   pub overlapping :
@@ -270,8 +324,8 @@ pub record Corners : Type 0 where
       ∷ "(cat (band 99 1) (deduct 0) (back 0 0) (placed 0))" ∷ [])
       ≡ readAs (programmeOf (record {
         treaties = [];
-        risk = termsOf 50 50 0 0 0 [] 0 ∷ [];
-        cat = termsOf 99 1 0 0 0 [] 0 ∷ [];
+        risk = termsOf 50 50 0 0 0 [] 0 0 ∷ [];
+        cat = termsOf 99 1 0 0 0 [] 0 0 ∷ [];
       }))
   -- the lowest number on one line; the first line from the top
   pub range-before-order :
@@ -285,16 +339,22 @@ pub record Corners : Type 0 where
       ≡ refusedAt 5 2
   -- writing: the text, its length with 7
   pub writes : writeOf (programmeOf sidneyContracts) 240 ≡ written (text sidney) textOnly
-  pub exactly : writeOf (programmeOf allContracts) 311 ≡ written allBytes textOnly
-  pub one-short : writeOf (programmeOf allContracts) 310 ≡ refused 7 311
+  pub exactly : writeOf (programmeOf allContracts) 318 ≡ written allBytes textOnly
+  pub one-short : writeOf (programmeOf allContracts) 317 ≡ refused 7 318
   pub no-lines : writeOf (programmeOf noContracts) 0 ≡ written [] textOnly
-  pub writes-none : writeOf (oneCat 0 9 (replicate 20 0)) 100 ≡ written (backText "0 9") textOnly
-  pub writes-two : writeOf (oneCat 2 7 (20000 ∷ 0 ∷ replicate 18 0)) 100 ≡ written (backText "2 7 20000 0") textOnly
+  pub writes-none : writeOf (oneCat 0 9 (replicate 20 0) 0) 100 ≡ written (backText "0 9") textOnly
+  pub writes-two : writeOf (oneCat 2 7 (20000 ∷ 0 ∷ replicate 18 0) 0) 100 ≡ written (backText "2 7 20000 0") textOnly
+  pub writes-time : writeOf (oneCat 1 5000 (10000 ∷ replicate 19 0) 1) 72 ≡ written (endedBy " (time))") textOnly
+  pub time-one-short : writeOf (oneCat 1 5000 (10000 ∷ replicate 19 0) 1) 71 ≡ refused 7 72
+  pub writes-timed-risk : writeOf timedRisk 100
+      ≡ written (bytes "(risk (band 7 3) (deduct 0) (back 0 9) (placed 3333) (time))\n") textOnly
   -- 6: a range, unused places that are not 0, kinds, a term of the other kind
-  pub limit-1 : writeOf (withRisk 1 (alone (termsOf 0 1 0 0 0 [] 0))) 0 ≡ refused 7 51
-  pub limit-0 : writeOf (withRisk 1 (alone (termsOf 0 0 0 0 0 [] 0))) 0 ≡ refused 6 0
-  pub unused-risk : writeOf (withRisk 0 (alone (termsOf 0 1 0 0 0 [] 0))) 1000 ≡ refused 6 0
-  pub unused-cat : writeOf (withCat 0 (alone (termsOf 0 0 0 0 0 [] 1))) 1000 ≡ refused 6 0
+  pub limit-1 : writeOf (withRisk 1 (alone (termsOf 0 1 0 0 0 [] 0 0))) 0 ≡ refused 7 51
+  pub limit-0 : writeOf (withRisk 1 (alone (termsOf 0 0 0 0 0 [] 0 0))) 0 ≡ refused 6 0
+  pub unused-risk : writeOf (withRisk 0 (alone (termsOf 0 1 0 0 0 [] 0 0))) 1000 ≡ refused 6 0
+  pub unused-cat : writeOf (withCat 0 (alone (termsOf 0 0 0 0 0 [] 1 0))) 1000 ≡ refused 6 0
+  pub time-2 : writeOf (oneCat 1 5000 (10000 ∷ replicate 19 0) 2) 1000 ≡ refused 6 0
+  pub unused-time : writeOf (withRisk 0 (alone onlyTime)) 1000 ≡ refused 6 0
   pub unused-treaty : writeOf (withTreaties 0 (oneTreaty 1 0)) 1000 ≡ refused 6 0
   pub quota-written : writeOf (withTreaties 1 (oneTreaty 1 0)) 0 ≡ refused 7 45
   pub kind-0 : writeOf (withTreaties 1 (oneTreaty 0 0)) 1000 ≡ refused 6 0
@@ -304,8 +364,9 @@ pub record Corners : Type 0 where
 
 pub corners : Corners
 unfolding printedBy printed digitOf readOn number capital filled matched wholeOf lineNumbers linesOf outside
-    treatyOutside ratesOutside termsOutside treatyNotZero termsNotZero ratesText layerNumbers kindOf formOfKind formOf
-    treatyLine treatyFault layerFault readFrom readOf validTreaties validLayers valid fitted writeOf
+    treatyOutside ratesOutside termsOutside treatyNotZero termsNotZero ratesText layerNumbers tailTime layerTerms
+    kindOf formOfKind formOf treatyLine treatyFault layerFault readFrom readOf validTreaties validLayers valid fitted
+    writeOf
 corners = record {
   lines-read = refl;
   answer-read = refl;
@@ -351,6 +412,15 @@ corners = record {
   rate-high = refl;
   rate-of-16-digits = refl;
   rate-and-premium = refl;
+  time-none = refl;
+  time-cat = refl;
+  time-risk = refl;
+  time-other = refl;
+  time-twice = refl;
+  time-blanks = refl;
+  time-bracket = refl;
+  time-early = refl;
+  time-treaty = refl;
   treaty-late = refl;
   risk-late = refl;
   same-number = refl;
@@ -376,10 +446,15 @@ corners = record {
   no-lines = refl;
   writes-none = refl;
   writes-two = refl;
+  writes-time = refl;
+  time-one-short = refl;
+  writes-timed-risk = refl;
   limit-1 = refl;
   limit-0 = refl;
   unused-risk = refl;
   unused-cat = refl;
+  time-2 = refl;
+  unused-time = refl;
   unused-treaty = refl;
   quota-written = refl;
   kind-0 = refl;

@@ -16,7 +16,7 @@ use Rattle.programme.specs.Contracts.{Contract, Proportional, Risk, Cat}
 use Rattle.table_text.specs.declared.LineRead.{LineRead}
 use Rattle.table_text.specs.declared.Form.the-variants as form
 use Rattle.table_text.specs.Forms.{Form, Line, NoForm, formRead, quotaText, surplusText, riskText, catText}
-use Rattle.table_text.specs.Forms.{layerNumbers, formIf, quotaForm, surplusForm, layerForm}
+use Rattle.table_text.specs.Forms.{layerTerms, formIf, quotaForm, surplusForm, layerForm}
 use Rattle.table_text.specs.Forms.{kindOf, formOfKind, formOf}
 
 -- a line of less than two bytes has no kind
@@ -98,11 +98,11 @@ module _ (s : List ℕ) (k : ℕ) (q : k ≡ kindOf s) where
   unfolding formOf formOfKind
   form-surplus h n e f p = p ∙ rw (formOf, ← q, h, e)
 
-  pub form-risk : k ≡ 3 → (f : Form) → f ≡ layerForm Risk (layerNumbers riskText s) → f ≡ formOf s
+  pub form-risk : k ≡ 3 → (f : Form) → f ≡ layerForm Risk (layerTerms riskText s) → f ≡ formOf s
   unfolding formOf formOfKind
   form-risk h f p = p ∙ rw (formOf, ← q, h)
 
-  pub form-cat : k ≡ 4 → (f : Form) → f ≡ layerForm Cat (layerNumbers catText s) → f ≡ formOf s
+  pub form-cat : k ≡ 4 → (f : Form) → f ≡ layerForm Cat (layerTerms catText s) → f ≡ formOf s
   unfolding formOf formOfKind
   form-cat h f p = p ∙ rw (formOf, ← q, h)
 

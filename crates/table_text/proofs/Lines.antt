@@ -11,27 +11,29 @@ use lib.Dec.{eqb, lit≤}
 use lib.ListN.{length, getD}
 use Rattle.lists.specs.Each.{Each}
 use Rattle.lists.proofs.Cases.{by-eq}
+use Rattle.lists.proofs.Each.{each-append}
 use Rattle.text.specs.Number.{digitOf}
 use Rattle.text.specs.Template.{capital, holes, filled, eight, lineNumbers, numbersBy}
 use Rattle.text.proofs.Digits.{Readable}
 use Rattle.text.proofs.Forms.{parted, separated, line-read, line-printed}
+use Rattle.text.proofs.Pieces.{filled-append}
 use Rattle.text.proofs.Lengths.{filled-length}
 use Rattle.text.proofs.Feeds.{NoFeed, feedless, filled-no-feed}
-use Rattle.text.proofs.Ascii.{Byte, filled-bytes}
+use Rattle.text.proofs.Ascii.{Byte, all-bytes, filled-bytes}
 use Rattle.treaty.specs.declared.Treaty.{Treaty}
 use Rattle.layer.specs.declared.terms.Terms.{Terms}
 use Rattle.programme.specs.Contracts.{Contract, Proportional, Risk, Cat}
 use Rattle.programme.specs.Ranges.{termsOutside}
 use Rattle.programme.proofs.Bounds.{QuotaInRange, SurplusInRange, TreatyInRange}
 use Rattle.programme.proofs.Bounds.{treaty-in-range, terms-in-range, rates-back}
-use Rattle.table_text.specs.Forms.{Line, NoForm, quotaText, surplusText, riskText, catText, layerText}
-use Rattle.table_text.specs.Forms.{quotaFrom, surplusFrom, termsFrom, quotaNumbers, surplusNumbers, termsNumbers}
-use Rattle.table_text.specs.Forms.{formIf, layerNumbers, layerForm, kindOf, formOfKind, formOf}
-use Rattle.table_text.specs.Forms.{treatyLine, termsLine, lineOf}
+use Rattle.table_text.specs.Forms.{Line, NoForm, quotaText, surplusText, riskText, catText, plainTail, timeTail}
+use Rattle.table_text.specs.Forms.{layerText, quotaFrom, surplusFrom, layerTerms, formIf, layerForm}
+use Rattle.table_text.specs.Forms.{kindOf, formOfKind, formOf, quotaNumbers, surplusNumbers, termsNumbers}
+use Rattle.table_text.specs.Forms.{treatyLine, tailOf, termsLine, lineOf}
 use Rattle.table_text.proofs.Fits.{Fit}
 use Rattle.table_text.proofs.LineKinds.{kind-other}
 use Rattle.table_text.proofs.LayerLines.{Beginning, risk-begins, cat-begins, rest-feedless, rest-bytes}
-use Rattle.table_text.proofs.LayerLines.{terms-listed, terms-back, layer-read, layer-printed, layer-short}
+use Rattle.table_text.proofs.LayerLines.{of-tails, layer-read, layer-printed, layer-short}
 
 -- One of a treaty's two forms: the template t of n numbers, the kind k of its lines, and the contract that numbers
 -- make.
@@ -116,8 +118,8 @@ module _ (t : List ℕ) (n k : ℕ) (make : List ℕ → Contract) (f : Shape t 
 -- A tier: the beginning of its lines, their kind k, and the contract that terms make.
 record Tier (begin : List ℕ) (k : ℕ) (make : Terms → Contract) : Type 0 where
   begins : Beginning begin
-  kind : (n : ℕ) (ns : List ℕ) → kindOf (filled (layerText begin n) ns []) ≡ k
-  reads : (s : List ℕ) → formOfKind k s ≡ layerForm make (layerNumbers begin s)
+  kind : (n : ℕ) (ns tail : List ℕ) → kindOf (filled (layerText begin n) ns tail) ≡ k
+  reads : (s : List ℕ) → formOfKind k s ≡ layerForm make (layerTerms begin s)
   prints : (l : Terms) → lineOf (make l) ≡ termsLine begin l
   fits : (l : Terms) → Fit (make l) → termsOutside l ≡ 0
 
@@ -125,7 +127,7 @@ risk-tier : Tier riskText 3 Risk
 unfolding capital filled kindOf formOfKind
 risk-tier = record {
   begins = risk-begins;
-  kind = λ n ns. refl;
+  kind = λ n ns tail. refl;
   reads = λ s. refl;
   prints = λ l. refl;
   fits = λ l z. z;
@@ -135,7 +137,7 @@ cat-tier : Tier catText 4 Cat
 unfolding capital filled kindOf formOfKind
 cat-tier = record {
   begins = cat-begins;
-  kind = λ n ns. refl;
+  kind = λ n ns tail. refl;
   reads = λ s. refl;
   prints = λ l. refl;
   fits = λ l z. z;
@@ -147,35 +149,27 @@ module _ (begin : List ℕ) (k : ℕ) (make : Terms → Contract) (f : Tier begi
     tier-printed : formOf (lineOf (make l)) ≡ Line (make l)
     unfolding formOf
     tier-printed =
-        let r = terms-in-range l z in
-        let n = l .reinstatements in
         rw (
           f .prints l,
-          f .kind n (termsNumbers l),
+          f .kind (l .reinstatements) (termsNumbers l) (tailOf l),
           f .reads (termsLine begin l),
-          layer-printed begin (f .begins) l r,
-          terms-back l r (rates-back l z),
+          layer-printed begin (f .begins) l (terms-in-range l z) (rates-back l z),
         )
 
     tier-short : length (lineOf (make l)) ≤ 240
     tier-short = rw (f .prints l) (layer-short begin (f .begins) l (terms-in-range l z))
 
   tier-read : (s : List ℕ) (x : Contract) → formOfKind k s ≡ Line x → Fit x → s ≡ lineOf x
-  tier-read s x e z = by-numbers (layerNumbers begin s) refl (sym (f .reads s) ∙ e)
+  tier-read s x e z = by-terms (layerTerms begin s) refl (sym (f .reads s) ∙ e)
     where
-      by-numbers : (o : Option (List ℕ)) → layerNumbers begin s ≡ o → layerForm make (layerNumbers begin s) ≡ Line x
+      by-terms : (o : Option Terms) → layerTerms begin s ≡ o → layerForm make (layerTerms begin s) ≡ Line x
           → s ≡ lineOf x
-      by-numbers none q h = let z : _≡_ {A = ℕ} 0 1 = cc (rw q at h) in absurd (omega arith)
-      by-numbers (some v) q h =
-          let same : Line (make (termsFrom v)) ≡ Line x = rw q at h in
-          let made : make (termsFrom v) ≡ x = cc in
-          let fit = f .fits (termsFrom v) (rw (← made) at z) in
-          let r = layer-read begin (f .begins) s v q in
-          let listed = terms-listed v (r .1) (terms-in-range (termsFrom v) fit .reinstatements) in
-          r .0
-          ∙ ap (λ (ns : List ℕ). filled (layerText begin (getD v 3 0)) ns []) (sym listed)
-          ∙ sym (f .prints (termsFrom v))
-          ∙ ap lineOf made
+      by-terms none q h = let z : _≡_ {A = ℕ} 0 1 = cc (rw q at h) in absurd (omega arith)
+      by-terms (some l) q h =
+          let same : Line (make l) ≡ Line x = rw q at h in
+          let made : make l ≡ x = cc in
+          let few = terms-in-range l (f .fits l (rw (← made) at z)) .reinstatements in
+          layer-read begin (f .begins) s l q few ∙ sym (f .prints l) ∙ ap lineOf made
 
 -- what holds of both forms of a treaty, with numbers of at most sixteen digits in them, and of both tiers ..
 abbrev OfShapes : (Contract → Type 0) → Type 0
@@ -252,25 +246,35 @@ form-read s x e z = by-kind (kindOf s) e
         (λ c. let no : NoForm ≡ Line x = kind-other s k q t r c ∙ e in
         let z : _≡_ {A = ℕ} 0 1 = cc in absurd (omega arith)))))
 
--- what holds of all that the templates print, with any number of rates, holds of every contract's line
-of-templates : (P : List ℕ → Type 0)
-    → ((ns : List ℕ) → P (filled quotaText ns [])) → ((ns : List ℕ) → P (filled surplusText ns []))
-    → ((k : ℕ) (ns : List ℕ) → P (filled (layerText riskText k) ns []))
-    → ((k : ℕ) (ns : List ℕ) → P (filled (layerText catText k) ns [])) → (x : Contract) → P (lineOf x)
-unfolding treatyLine
-of-templates P quota surplus risk cat (Proportional t) = by-kind (eqb (t .kind) 2) refl
-  where
-    by-kind : (b : Bool) → eqb (t .kind) 2 ≡ b → P (treatyLine t)
-    by-kind true e = simp (treatyLine, e) (surplus (surplusNumbers t))
-    by-kind false e = simp (treatyLine, e) (quota (quotaNumbers t))
-of-templates P quota surplus risk cat (Risk l) = risk (l .reinstatements) (termsNumbers l)
-of-templates P quota surplus risk cat (Cat l) = cat (l .reinstatements) (termsNumbers l)
+-- what holds of every byte that the templates print, with any number of rates, and of both tails holds of every byte
+-- of a contract's line
+module _ (P : ℕ → Type 0) (plain : Each P plainTail) (timed : Each P timeTail) where
+  of-terms : (begin : List ℕ) → ((k : ℕ) (ns : List ℕ) → Each P (filled (layerText begin k) ns []))
+      → (l : Terms) → Each P (termsLine begin l)
+  of-terms begin z l =
+      let t = layerText begin (l .reinstatements) in
+      rw (filled-append t (termsNumbers l) (tailOf l))
+      (each-append P (filled t (termsNumbers l) []) (tailOf l) (z (l .reinstatements) (termsNumbers l))
+      (of-tails (Each P) plain timed l))
+
+  of-templates :
+      ((ns : List ℕ) → Each P (filled quotaText ns [])) → ((ns : List ℕ) → Each P (filled surplusText ns []))
+      → ((k : ℕ) (ns : List ℕ) → Each P (filled (layerText riskText k) ns []))
+      → ((k : ℕ) (ns : List ℕ) → Each P (filled (layerText catText k) ns [])) → (x : Contract) → Each P (lineOf x)
+  unfolding treatyLine
+  of-templates quota surplus risk cat (Proportional t) = by-kind (eqb (t .kind) 2) refl
+    where
+      by-kind : (b : Bool) → eqb (t .kind) 2 ≡ b → Each P (treatyLine t)
+      by-kind true e = simp (treatyLine, e) (surplus (surplusNumbers t))
+      by-kind false e = simp (treatyLine, e) (quota (quotaNumbers t))
+  of-templates quota surplus risk cat (Risk l) = of-terms riskText risk l
+  of-templates quota surplus risk cat (Cat l) = of-terms catText cat l
 
 -- no line feed is in a contract's line
 pub line-no-feed : (x : Contract) → NoFeed (lineOf x)
-unfolding feedless
+unfolding feedless filled capital
 line-no-feed =
-    of-templates NoFeed
+    of-templates (λ (b : ℕ). b ≡ 10 → ⊥) (filled-no-feed plainTail [] refl) (filled-no-feed timeTail [] refl)
     (λ ns. filled-no-feed quotaText ns refl)
     (λ ns. filled-no-feed surplusText ns refl)
     (λ k ns. filled-no-feed (layerText riskText k) ns (rest-feedless k))
@@ -279,7 +283,7 @@ line-no-feed =
 -- a contract's line is of bytes
 pub line-bytes : (x : Contract) → Each Byte (lineOf x)
 line-bytes =
-    of-templates (Each Byte)
+    of-templates Byte (all-bytes plainTail refl) (all-bytes timeTail refl)
     (λ ns. filled-bytes quotaText ns refl)
     (λ ns. filled-bytes surplusText ns refl)
     (λ k ns. filled-bytes (layerText riskText k) ns (rest-bytes k))

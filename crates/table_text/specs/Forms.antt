@@ -1,4 +1,4 @@
--- Document 01, The table text, with document 02's Q-2: the four forms of a table's lines, read and printed.
+-- Document 01, The table text, with document 02's Q-2 and Q-4: the four forms of a table's lines, read and printed.
 -- Assumes nothing.
 use mathlib.Core.Bool.{Bool, true, false, cond}
 use mathlib.Core.List.{List, [], _∷_, _++_, map}
@@ -13,7 +13,7 @@ use Rattle.text.specs.declared.template.Numbers.{Numbers}
 use Rattle.treaty.specs.declared.Treaty.{Treaty}
 use Rattle.treaty.specs.Treaty.{quotaOf, surplusOf}
 use Rattle.layer.specs.declared.terms.Terms.{Terms}
-use Rattle.layer.specs.Layer.{termsOf}
+use Rattle.layer.specs.Layer.{termsOf, isTimed}
 use Rattle.programme.specs.Contracts.{Contract, Proportional, Risk, Cat, contractOf, Contracts, inOrder}
 use Rattle.table_text.specs.declared.LineRead.{LineRead}
 use Rattle.table_text.specs.declared.Form.the-variants as form
@@ -35,7 +35,7 @@ abbrev pub surplusText : List ℕ
 surplusText = bytes "(surplus T (retain R) (lines N) (event L))"
 
 -- A layer's form has as many rates as its K says: "the form becomes `(back K P Q1 .. QK)`", "a line whose rates are
--- not K in number is 2". Its beginning by the tier, one rate, and its end
+-- not K in number is 2". Its beginning by the tier, one rate, and its placed share
 abbrev pub riskText : List ℕ
 riskText = bytes "(risk (band A L) (deduct D) (back K P"
 
@@ -46,14 +46,21 @@ abbrev pub rateText : List ℕ
 rateText = bytes " Q"
 
 abbrev pub endText : List ℕ
-endText = bytes ") (placed S))"
+endText = bytes ") (placed S)"
+
+-- "A layer's form may have `(time)` as its last item, after placed": the tail of its line without it, and with it
+abbrev pub plainTail : List ℕ
+plainTail = bytes ")"
+
+abbrev pub timeTail : List ℕ
+timeTail = bytes " (time))"
 
 -- so many rates
 unfoldable pub ratesText : ℕ → List ℕ
 ratesText zero = []
 ratesText (suc k) = rateText ++ ratesText k
 
--- the form with k rates
+-- the form with k rates, up to its tail
 abbrev pub layerText : List ℕ → ℕ → List ℕ
 layerText begin k = begin ++ (ratesText k ++ endText)
 
@@ -64,15 +71,31 @@ quotaFrom v = quotaOf (getD v 0 0) (getD v 1 0) (getD v 2 0) (getD v 3 0)
 abbrev pub surplusFrom : List ℕ → Treaty
 surplusFrom v = surplusOf (getD v 0 0) (getD v 1 0) (getD v 2 0) (getD v 3 0)
 
-abbrev pub termsFrom : List ℕ → Terms
-termsFrom v =
+abbrev pub termsFrom : List ℕ → (w : ℕ) → Terms
+termsFrom v w =
     termsOf (getD v 0 0) (getD v 1 0) (getD v 2 0) (getD v 3 0) (getD v 4 0) (take (getD v 3 0) (drop 5 v))
-    (getD v (5 + getD v 3 0) 0)
+    (getD v (5 + getD v 3 0) 0) w
 
--- a layer's numbers in a line that is its form with as many rates as the line's own K
-unfoldable pub layerNumbers : List ℕ → List ℕ → Option (List ℕ)
+-- a layer's numbers in a line that is its form with as many rates as the line's own K, and what is left of the line
+unfoldable pub layerNumbers : List ℕ → List ℕ → Option (List ℕ × List ℕ)
 layerNumbers begin s =
-    elim (matched [] begin s) [ none ↦ none | some p ↦ lineNumbers (layerText begin (getD (p .0) 3 0)) s ]
+    elim (matched [] begin s) [ none ↦ none | some p ↦ matched [] (layerText begin (getD (p .0) 3 0)) s ]
+
+-- what is left of the line is a tail: 0 for the one without (time), 1 for the one with it
+unfoldable pub tailTime : List ℕ → Option ℕ
+tailTime s =
+    elim (lineNumbers plainTail s) [
+      | some v ↦ some 0
+      | none ↦ elim (lineNumbers timeTail s) [ some v ↦ some 1 | none ↦ none ]
+    ]
+
+-- a layer's terms in a line that is its form
+unfoldable pub layerTerms : List ℕ → List ℕ → Option Terms
+layerTerms begin s =
+    elim (layerNumbers begin s) [
+      | none ↦ none
+      | some p ↦ elim (tailTime (p .1)) [ none ↦ none | some w ↦ some (termsFrom (p .0) w) ]
+    ]
 
 -- what a line is where a template finds its numbers in it, and no form where it does not
 abbrev pub formIf : Bool → Contract → Form
@@ -85,9 +108,9 @@ quotaForm n = formIf (n .found) (Proportional (quotaFrom (n .values)))
 abbrev pub surplusForm : Numbers → Form
 surplusForm n = formIf (n .found) (Proportional (surplusFrom (n .values)))
 
-abbrev pub layerForm : (Terms → Contract) → Option (List ℕ) → Form
+abbrev pub layerForm : (Terms → Contract) → Option Terms → Form
 layerForm tier none = NoForm
-layerForm tier (some v) = Line (tier (termsFrom v))
+layerForm tier (some t) = Line (tier t)
 
 -- "A line's first word settles its kind": 1 quota, 2 surplus, 3 risk, 4 cat, the only form that a line with this
 -- letter after the bracket (40) can be; 0 where it can be none.
@@ -102,8 +125,8 @@ unfoldable pub formOfKind : ℕ → List ℕ → Form
 formOfKind k s =
     cond (eqb k 1) (quotaForm (numbersBy quotaText s))
     (cond (eqb k 2) (surplusForm (numbersBy surplusText s))
-    (cond (eqb k 3) (layerForm Risk (layerNumbers riskText s))
-    (cond (eqb k 4) (layerForm Cat (layerNumbers catText s)) NoForm)))
+    (cond (eqb k 3) (layerForm Risk (layerTerms riskText s))
+    (cond (eqb k 4) (layerForm Cat (layerTerms catText s)) NoForm)))
 
 -- what a line is
 unfoldable pub formOf : List ℕ → Form
@@ -135,9 +158,13 @@ treatyLine t =
     elim (eqb (t .kind) 2)
     [ true ↦ filled surplusText (surplusNumbers t) [] | false ↦ filled quotaText (quotaNumbers t) [] ]
 
--- a layer's line, by the beginning of its tier: its form with K rates
+-- the tail of a layer's line
+abbrev pub tailOf : Terms → List ℕ
+tailOf l = cond (isTimed l) timeTail plainTail
+
+-- a layer's line, by the beginning of its tier: its form with K rates, and its tail
 abbrev pub termsLine : List ℕ → Terms → List ℕ
-termsLine begin l = filled (layerText begin (l .reinstatements)) (termsNumbers l) []
+termsLine begin l = filled (layerText begin (l .reinstatements)) (termsNumbers l) (tailOf l)
 
 -- a contract's line
 abbrev pub lineOf : Contract → List ℕ

@@ -1,6 +1,7 @@
-// The checked figures of document 01, and those of document 02 on rates, event limits and the nearest cent, computed
-// by the code: a line each, held to the stored output.
+// The checked figures of document 01, and those of document 02 on rates, event limits, the nearest cent and premium by
+// time, computed by the code: a line each, held to the stored output.
 ghost use mathlib.Core.List.{[], _∷_};
+ghost use mathlib.Core.Path.{_≡_};
 ghost use Prim.Native.Nat.{_+_, _^_, _≤_};
 ghost use lib.ListN.{take};
 ghost use Rattle.treaty.specs.Ranges.{TermsInRange, LossInRange};
@@ -148,10 +149,10 @@ fn surplus_figures() {
     );
 }
 
-// A layer with nothing spent, from the numbers of its line: (band A L) (deduct D) (back K P Q1 Q2 Q3) (placed S). A
-// rate that is not used is 0.
-fn layer(a: u64, l: u64, d: u64, k: u64, p: u64, q1: u64, q2: u64, q3: u64, s: u64) -> Layer
-    requires { ⌜ InRange (termsOf a l d k p (q1 ∷ q2 ∷ q3 ∷ []) s) ⌝ }
+// A layer with nothing spent, from the numbers of its line: (band A L) (deduct D) (back K P Q1 Q2 Q3) (placed S), and
+// 1 for (time). A rate that is not used is 0.
+fn layer(a: u64, l: u64, d: u64, k: u64, p: u64, q1: u64, q2: u64, q3: u64, s: u64, w: u64) -> Layer
+    requires { ⌜ InRange (termsOf a l d k p (q1 ∷ q2 ∷ q3 ∷ []) s w) ⌝ }
     ensures { λ r. ⌜ Sound r ⌝ }
 {
     let terms = Terms {
@@ -183,17 +184,23 @@ fn layer(a: u64, l: u64, d: u64, k: u64, p: u64, q1: u64, q2: u64, q3: u64, s: u
             0,
             0,
         ],
+        time: w,
     };
     let spent = Whole::new(0);
-    Layer { terms, spent }
+    let timed = Placed::none();
+    Layer {
+        terms,
+        spent,
+        timed,
+    }
 }
 
 // One without reinstatements.
 fn plain(a: u64, l: u64, d: u64, s: u64) -> Layer
-    requires { ⌜ InRange (termsOf a l d 0 0 [] s) ⌝ }
+    requires { ⌜ InRange (termsOf a l d 0 0 [] s 0) ⌝ }
     ensures { λ r. ⌜ Sound r ⌝ }
 {
-    layer(a, l, d, 0, 0, 0, 0, 0, s)
+    layer(a, l, d, 0, 0, 0, 0, 0, s, 0)
 }
 
 fn brought(name: &[u8], layer: Layer, subject: u64) {
@@ -201,16 +208,23 @@ fn brought(name: &[u8], layer: Layer, subject: u64) {
     line(name, loss.cents());
 }
 
-// The record after a subject amount, whose recovery is shown.
+// Nothing recovered or due yet, on a day of this share.
+fn nothing(share: u64) -> Sums
+    ensures { λ r. ⌜ (r .share ≡ share) × (r .recovered .0 ≡ 0) × (r .premium .0 ≡ 0) ⌝ }
+{
+    Sums {
+        share,
+        recovered: Placed::none(),
+        premium: Placed::none(),
+    }
+}
+
+// The record after a subject amount, whose recovery is shown. Without (time) the day's share does not matter.
 fn recovery(layer: Layer, subject: u64) -> Layer
     requires { ⌜ Sound layer ⌝ }
     ensures { λ r. ⌜ Sound r ⌝ }
 {
-    let none = Sums {
-        recovered: Placed::none(),
-        premium: Placed::none(),
-    };
-    let borne = layer.bear(subject, none);
+    let borne = layer.bear(subject, nothing(0));
     let sums = borne.sums;
     amount(sums.recovered.cents());
     borne.layer
@@ -249,17 +263,17 @@ fn layer_figures() {
     recoveries(b"placed 3333", plain(0, 100, 0, 3333), &[1, 1, 1, 1, 1]);
     recoveries(
         b"L3 used 150",
-        layer(0, 100, 0, 1, 1000, 10000, 0, 0, 10000),
+        layer(0, 100, 0, 1, 1000, 10000, 0, 0, 10000, 0),
         &[100, 50],
     );
     recoveries(
         b"L3 used 200",
-        layer(0, 100, 0, 1, 1000, 10000, 0, 0, 10000),
+        layer(0, 100, 0, 1, 1000, 10000, 0, 0, 10000, 0),
         &[100, 50, 50],
     );
     recoveries(
         b"L4",
-        layer(500000, 500000, 1000000, 1, 0, 0, 0, 0, 10000),
+        layer(500000, 500000, 1000000, 1, 0, 0, 0, 0, 10000, 0),
         &[750000, 2000000, 1000000, 250000, 1000000],
     );
 }
@@ -268,21 +282,21 @@ fn layer_figures() {
 fn first_free() -> Layer
     ensures { λ r. ⌜ Sound r ⌝ }
 {
-    layer(0, 100, 0, 2, 1000, 0, 10000, 0, 10000)
+    layer(0, 100, 0, 2, 1000, 0, 10000, 0, 10000, 0)
 }
 
 // The second of them.
 fn second_free() -> Layer
     ensures { λ r. ⌜ Sound r ⌝ }
 {
-    layer(0, 100, 0, 2, 1000, 10000, 0, 0, 10000)
+    layer(0, 100, 0, 2, 1000, 10000, 0, 0, 10000, 0)
 }
 
 // Three reinstatements, each at another rate.
 fn three_rates() -> Layer
     ensures { λ r. ⌜ Sound r ⌝ }
 {
-    layer(0, 100, 0, 3, 999, 1, 20000, 7, 3333)
+    layer(0, 100, 0, 3, 999, 1, 20000, 7, 3333, 0)
 }
 
 // The premium at the ends of slices and inside them.
@@ -303,13 +317,64 @@ fn rate_figures() {
     recoveries(b"three rates, used 301", three_rates(), &[100, 100, 100, 1]);
 }
 
+// The built-in share of a day.
+fn share(day: u64) -> u64
+    ensures { λ r. ⌜ r ≤ 10000 ⌝ }
+{
+    let shares = scale::built_in();
+    scale::share_on(&shares, day)
+}
+
+// The record after a subject amount on a day, whose premium is shown.
+fn premium(layer: Layer, subject: u64, day: u64) -> Layer
+    requires { ⌜ Sound layer ⌝ }
+    ensures { λ r. ⌜ Sound r ⌝ }
+{
+    let borne = layer.bear(subject, nothing(share(day)));
+    let sums = borne.sums;
+    amount(sums.premium.cents());
+    borne.layer
+}
+
+// The premiums of a subject amount on days, in turn, and the year's figures after them.
+fn premiums(name: &[u8], layer: Layer, subject: u64, days: &[u64])
+    requires { ⌜ Sound layer ⌝ }
+{
+    io::write_all(STDOUT_FILENO, name);
+    let mut now = layer;
+    let mut i = 0;
+    while i < days.len() {
+        now = premium(now, subject, days[i]);
+        i += 1;
+    }
+    io::write_all(STDOUT_FILENO, b" year");
+    year(now);
+    end_line();
+}
+
+// A layer with (time), of which half is used by 500,000, at 182,500.
+fn by_time() -> Layer
+    ensures { λ r. ⌜ Sound r ⌝ }
+{
+    layer(0, 1000000, 0, 1, 365000, 10000, 0, 0, 10000, 1)
+}
+
+fn time_figures() {
+    premiums(b"time, day 1", by_time(), 500000, &[1]);
+    premiums(b"time, day 184", by_time(), 500000, &[184]);
+    premiums(b"time, day 366", by_time(), 500000, &[366]);
+    premiums(b"time, days 100 and 200", by_time(), 500000, &[100, 200]);
+    premiums(b"time, at once on day 100", by_time(), 1000000, &[100]);
+    premiums(b"time, at once on day 184", by_time(), 1000000, &[184]);
+}
+
 // The catastrophe tier of H1: its layers stand in the first three places.
 fn cat_layers() -> [Layer; tier::PLACES]
     ensures { λ r. ⌜ SoundLayers (take 3 r) ⌝ }
 {
     let first = plain(25000000, 75000000, 75000000, 10000);
-    let second = layer(100000000, 150000000, 0, 1, 75000000, 5000, 0, 0, 8000);
-    let third = layer(250000000, 150000000, 0, 1, 30000000, 10000, 0, 0, 7200);
+    let second = layer(100000000, 150000000, 0, 1, 75000000, 5000, 0, 0, 8000, 0);
+    let third = layer(250000000, 150000000, 0, 1, 30000000, 10000, 0, 0, 7200, 0);
     let mut layers = [first; tier::PLACES];
     layers[1] = second;
     layers[2] = third;
@@ -318,11 +383,7 @@ fn cat_layers() -> [Layer; tier::PLACES]
 
 // One subject to every layer of a tier: recoveries and premiums, added.
 fn tier_figures() {
-    let none = Sums {
-        recovered: Placed::none(),
-        premium: Placed::none(),
-    };
-    let borne = tier::bear_first(cat_layers(), 3, &[350000000], none);
+    let borne = tier::bear_first(cat_layers(), 3, &[350000000], nothing(0));
     let sums = borne.sums;
     io::write_all(STDOUT_FILENO, b"H1 tier");
     amount(sums.recovered.cents());
@@ -335,5 +396,6 @@ fn main() {
     surplus_figures();
     layer_figures();
     rate_figures();
+    time_figures();
     tier_figures();
 }

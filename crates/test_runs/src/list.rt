@@ -1,8 +1,9 @@
 // The list of cases, each ended by `#`. A case has five fields with a bar between them: its name; a table; the
 // standing lent; the buffer's room, the size that the events text is repeated to (0: it is run as it stands) and the
 // mark in an unused place (0: none); the events text. No field has a bar or a `#`.
-// A standing is its day, then the risk layers' spent amounts in eight places, then the cat layers'; what is left out
-// at the end is 0. An empty field is the standing that opening gives, and `=` is the one that the case before left.
+// A standing is its day, then the risk layers' spent amounts in eight places, then the cat layers', then the timed
+// premiums of both so; what is left out at the end is 0. An empty field is the standing that opening gives, and `=` is
+// the one that the case before left.
 ghost use Prim.Native.Nat.{_≤_};
 ghost use lib.ListN.{length};
 use crate::case::case;
@@ -33,11 +34,11 @@ fn after(case: &[u8], bar: usize) -> usize
 }
 
 // The numbers of a field, with one byte between them, and zeros after them.
-fn numbers(field: &[u8]) -> [u64; 17] {
-    let mut values = [0u64; 17];
+fn numbers(field: &[u8]) -> [u64; 33] {
+    let mut values = [0u64; 33];
     let mut at: usize = 0;
     let mut k: usize = 0;
-    while k < 17 {
+    while k < 33 {
         let Number::Value(value, next) = text::number::read(field, at) else {
             return values;
         };
@@ -58,6 +59,8 @@ fn typed(field: &[u8]) -> Standing {
         risk: [v[1], v[2], v[3], v[4], v[5], v[6], v[7], v[8]],
         cat: [v[9], v[10], v[11], v[12], v[13], v[14], v[15], v[16]],
         day: v[0],
+        risk_timed: [v[17], v[18], v[19], v[20], v[21], v[22], v[23], v[24]],
+        cat_timed: [v[25], v[26], v[27], v[28], v[29], v[30], v[31], v[32]],
     }
 }
 

@@ -11,22 +11,28 @@ pub fn number(n: u64) {
     io::print_decimal(STDOUT_FILENO, n);
 }
 
-fn eight(spent: [u64; 8]) {
+fn eight(numbers: [u64; 8]) {
     let mut i: usize = 0;
     while i < 8 {
-        number(spent[i]);
+        number(numbers[i]);
         i += 1;
     }
 }
 
-// All seventeen numbers, so that a missing layer's are seen too.
+// All thirty-three numbers, so that a missing layer's are seen too.
 pub fn standing(standing: Standing) {
     let risk = standing.risk;
     let cat = standing.cat;
+    let risk_timed = standing.risk_timed;
+    let cat_timed = standing.cat_timed;
     words(b" day");
     number(standing.day);
     words(b" risk");
     eight(risk);
     words(b" cat");
     eight(cat);
+    words(b" timed risk");
+    eight(risk_timed);
+    words(b" cat");
+    eight(cat_timed);
 }

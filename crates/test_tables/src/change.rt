@@ -1,7 +1,8 @@
-// A programme read from a typed table, with one place, one rate or one count changed: t, r or c and a treaty's, a risk
-// layer's or a cat layer's place with its numbers; q or Q and a risk layer's or a cat layer's place, a rate's and that
-// rate; or T, R or C and a count. Most are such that no table text reads to them, and writing refuses them with 6;
-// beside them are the nearest that a text does read to, so that no test refuses too much.
+// A programme read from a typed table, with one place, one rate, one time or one count changed: t, r or c and a
+// treaty's, a risk layer's or a cat layer's place with its numbers; q or Q and a risk layer's or a cat layer's place, a
+// rate's and that rate; m or M and such a place and its time; or T, R or C and a count. Most are such that no table
+// text reads to them, and writing refuses them with 6; beside them are the nearest that a text does read to, so that no
+// test refuses too much.
 ghost use Prim.Native.Nat.{_<_};
 use crate::task::Task;
 use layer::terms::RATES;
@@ -46,7 +47,8 @@ fn rates_of(count: u64, rate: u64) -> [u64; RATES] {
     rates
 }
 
-// [attachment limit deduct K premium placed rate], after the place; the rate is that of each reinstatement
+// [attachment limit deduct K premium placed rate], after the place; the rate is that of each reinstatement, and the
+// time is 0
 fn terms_of(v: [u64; 8]) -> Terms {
     Terms {
         attachment: v[1],
@@ -56,6 +58,7 @@ fn terms_of(v: [u64; 8]) -> Terms {
         premium: v[5],
         placed: v[6],
         rates: rates_of(v[4], v[7]),
+        time: 0,
     }
 }
 
@@ -66,6 +69,12 @@ fn with_rate(terms: Terms, i: usize, rate: u64) -> Terms
     let mut rates = terms.rates;
     rates[i] = rate;
     changed.rates = rates;
+    changed
+}
+
+fn with_time(terms: Terms, time: u64) -> Terms {
+    let mut changed = terms;
+    changed.time = time;
     changed
 }
 
@@ -153,6 +162,20 @@ fn rate_changed(programme: Programme, letter: u8, i: usize, at: usize, rate: u64
     }
 }
 
+// One time changed, by its tier's letter.
+fn time_changed(programme: Programme, letter: u8, i: usize, time: u64) -> Programme {
+    if 8 <= i {
+        return programme;
+    }
+    let risk = programme.risk;
+    let cat = programme.cat;
+    match letter {
+        b'm' => with_risk(programme, i, with_time(risk.places[i], time)),
+        b'M' => with_cat(programme, i, with_time(cat.places[i], time)),
+        _ => programme,
+    }
+}
+
 // A programme changed as a task says; another letter changes nothing.
 pub fn changed(programme: Programme, task: Task) -> Programme {
     let v = task.numbers;
@@ -163,6 +186,7 @@ pub fn changed(programme: Programme, task: Task) -> Programme {
         b'R' => risk_count(programme, n),
         b'C' => cat_count(programme, n),
         b'q' | b'Q' => rate_changed(programme, letter, n, v[1] as usize, v[2]),
+        b'm' | b'M' => time_changed(programme, letter, n, v[1]),
         _ => place_changed(programme, letter, n, v),
     }
 }

@@ -46,7 +46,8 @@ fn rate_places(rates: [u64; RATES], used: u64) -> u64 {
     rest
 }
 
-// [attachment limit deduct K premium rates placed]; returns the bits of the rates that are not used.
+// [attachment limit deduct K premium rates placed], and a time that is not 0 after its word; returns the bits of the
+// rates that are not used.
 fn layer_place(l: Terms) -> u64 {
     words(b" [");
     io::print_decimal(STDOUT_FILENO, l.attachment);
@@ -57,6 +58,10 @@ fn layer_place(l: Terms) -> u64 {
     let rates = l.rates;
     let rest = rate_places(rates, l.reinstatements);
     number(l.placed);
+    if l.time != 0 {
+        words(b" time");
+        number(l.time);
+    }
     words(b"]");
     rest
 }
@@ -68,7 +73,7 @@ fn treaty_bits(t: Treaty) -> u64 {
 fn layer_bits(l: Terms) -> u64 {
     let rates = l.rates;
     let rest = rate_places(rates, 0);
-    l.attachment | l.limit | l.deductible | l.reinstatements | l.premium | l.placed | rest
+    l.attachment | l.limit | l.deductible | l.reinstatements | l.premium | l.placed | rest | l.time
 }
 
 // Shows the treaties in use and returns the bits of the other places.

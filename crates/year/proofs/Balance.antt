@@ -21,6 +21,7 @@ use Rattle.layer.specs.declared.terms.Terms.{Terms}
 use Rattle.layer.specs.declared.record.Layer.{Layer}
 use Rattle.layer.specs.Tier.{recoveriesBy, layersAfter, recoveriesThrough, leftThrough}
 use Rattle.layer.proofs.Tiers.{recoveries-le-subject, recovered-and-left-through}
+use Rattle.scale.specs.Scale.{Fair}
 use Rattle.programme.specs.Contracts.{Contracts}
 use Rattle.programme.specs.Rules.{treatyNumber, bandEnd}
 use Rattle.programme.specs.Valid.{treatyPasses, layerPasses}
@@ -50,9 +51,9 @@ pub record Exact (ts : List Treaty) (y : Year) (e : Event) : Type 0 where
   pub cat : recoveriesBy (subjectOf ts y e) (y .cat) ≤ subjectOf ts y e
 
 -- so of events in turn
-abbrev pub ExactFrom : List Treaty → Year → List Event → Type 0
-ExactFrom ts y [] = Unit {0}
-ExactFrom ts y (e ∷ es) = Exact ts y e × ExactFrom ts (eventAfter ts y e) es
+abbrev pub ExactFrom : (shares : List ℕ) → List Treaty → Year → List Event → Type 0
+ExactFrom shares ts y [] = Unit {0}
+ExactFrom shares ts y (e ∷ es) = Exact ts y e × ExactFrom shares ts (eventAfter shares ts y e) es
 
 -- treaties with a cede of at most 10,000 cede within the amounts
 ceded-within : (ts : List Treaty) → Each (λ (t : Treaty). t .cede ≤ 10000) ts → (earlier xs : List Loss)
@@ -68,7 +69,7 @@ module _ (ts : List Terms) (passes : chained layerPasses bandEnd 0 ts ≡ true) 
   recovered-within : (ys : List ℕ) (ls : List Layer) → Carries ts ls → RecoveredWithin ys ls
   recovered-within [] ls k = tt
   recovered-within (y ∷ ys) ls k =
-      (within-subject y ls k, recovered-within ys (layersAfter y ls) (carries-after ts ls y k))
+      (within-subject y ls k, recovered-within ys (layersAfter y ls) (carries-after ts passes ls y k))
 
 module _ (c : Contracts) (lawful : Lawful c) where
   -- so it is of an event under lawful contracts
@@ -79,11 +80,6 @@ module _ (c : Contracts) (lawful : Lawful c) where
     cat = within-subject (c .cat) (lawful .cat) (subjectOf (c .treaties) y e) (y .cat) (u .cat);
   }
 
-  pub events-exact : (y : Year) (es : List Event) → Under c y → ExactFrom (c .treaties) y es
-  events-exact y [] u = tt
-  events-exact y (e ∷ es) u =
-      (event-exact y e u, events-exact (eventAfter (c .treaties) y e) es (under-event c y e u))
-
   -- what the risk layers recover and leave of amounts in turn are the amounts
   pub through-balanced : (ys : List ℕ) (ls : List Layer) → Carries (c .risk) ls
       → total ys ≡ recoveriesThrough ys ls + leftThrough ys ls
@@ -91,52 +87,65 @@ module _ (c : Contracts) (lawful : Lawful c) where
       sym (recovered-and-left-through ys ls (carries-sound (c .risk) ls (lawful .risk) k)
       (carries-rising (c .risk) ls (lawful .risk) k))
 
+module _ (shares : List ℕ) (fair : Fair shares) (c : Contracts) (lawful : Lawful c) where
+  -- so of events
+  pub events-exact : (y : Year) (es : List Event) → Under c y → ExactFrom shares (c .treaties) y es
+  events-exact y [] u = tt
+  events-exact y (e ∷ es) u =
+      let next = eventAfter shares (c .treaties) y e in
+      (event-exact c lawful y e u, events-exact next es (under-event shares fair c lawful y e u))
+
   -- net never goes below 0: the catastrophe recoveries and the net are their subject
   pub net-exact : (y : Year) (e : Event) → Under c y
-      → eventAmounts (c .treaties) y e .cat + eventAmounts (c .treaties) y e .net ≡ subjectOf (c .treaties) y e
-  net-exact y e u = add-sub-of-le (event-exact y e u .cat)
+      → eventAmounts shares (c .treaties) y e .cat + eventAmounts shares (c .treaties) y e .net
+      ≡ subjectOf (c .treaties) y e
+  net-exact y e u = add-sub-of-le (event-exact c lawful y e u .cat)
 
   -- an event's amounts are balanced
-  pub event-balanced : (y : Year) (e : Event) → Under c y → Balanced (eventAmounts (c .treaties) y e)
+  pub event-balanced : (y : Year) (e : Event) → Under c y → Balanced (eventAmounts shares (c .treaties) y e)
   unfolding subjectOf
   event-balanced y e u =
       omega (
         arith,
         all-ceded-and-left (c .treaties) (passed-cedes 0 (c .treaties) (lawful .treaties)) [] (e .losses),
-        through-balanced (leftByTreaties (c .treaties) e) (y .risk) (u .risk),
+        through-balanced c lawful (leftByTreaties (c .treaties) e) (y .risk) (u .risk),
         net-exact y e u,
       )
 
   -- and so are the totals of a run
-  pub run-balanced : (y : Year) (es : List Event) → Under c y → Balanced (totals (eventLines (c .treaties) y es))
+  pub run-balanced : (y : Year) (es : List Event) → Under c y
+      → Balanced (totals (eventLines shares (c .treaties) y es))
   run-balanced y [] u = refl
   run-balanced y (e ∷ es) u =
-      omega (arith, event-balanced y e u, run-balanced (eventAfter (c .treaties) y e) es (under-event c y e u))
+      let next = eventAfter shares (c .treaties) y e in
+      omega (arith, event-balanced y e u, run-balanced next es (under-event shares fair c lawful y e u))
 
   -- and so is each event line
   pub lines-balanced : (y : Year) (es : List Event) → Under c y
-      → Each (λ (l : EventLine). Balanced (l .amounts)) (eventLines (c .treaties) y es)
+      → Each (λ (l : EventLine). Balanced (l .amounts)) (eventLines shares (c .treaties) y es)
   lines-balanced y [] u = tt
   lines-balanced y (e ∷ es) u =
-      (event-balanced y e u, lines-balanced (eventAfter (c .treaties) y e) es (under-event c y e u))
+      let next = eventAfter shares (c .treaties) y e in
+      (event-balanced y e u, lines-balanced next es (under-event shares fair c lawful y e u))
 
 -- the gross of a run is that of its losses
-pub run-gross : (ts : List Treaty) (y : Year) (es : List Event) → totals (eventLines ts y es) .gross ≡ grossIn es
-run-gross ts y [] = refl
-run-gross ts y (e ∷ es) =
-    rw sum-append (ap (λ (n : ℕ). grossOf (e .losses) + n) (run-gross ts (eventAfter ts y e) es))
+pub run-gross : (shares : List ℕ) (ts : List Treaty) (y : Year) (es : List Event)
+    → totals (eventLines shares ts y es) .gross ≡ grossIn es
+run-gross shares ts y [] = refl
+run-gross shares ts y (e ∷ es) =
+    rw sum-append (ap (λ (n : ℕ). grossOf (e .losses) + n) (run-gross shares ts (eventAfter shares ts y e) es))
 
 -- the ceded of a run is that of its events
-lines-ceded : (ts : List Treaty) (y : Year) (es : List Event)
-    → totals (eventLines ts y es) .ceded ≡ sumOf (λ (e : Event). total (cededOfEach ts [] (e .losses))) es
-lines-ceded ts y [] = refl
-lines-ceded ts y (e ∷ es) =
-    ap (λ (n : ℕ). total (cededOfEach ts [] (e .losses)) + n) (lines-ceded ts (eventAfter ts y e) es)
+lines-ceded : (shares : List ℕ) (ts : List Treaty) (y : Year) (es : List Event)
+    → totals (eventLines shares ts y es) .ceded ≡ sumOf (λ (e : Event). total (cededOfEach ts [] (e .losses))) es
+lines-ceded shares ts y [] = refl
+lines-ceded shares ts y (e ∷ es) =
+    ap (λ (n : ℕ). total (cededOfEach ts [] (e .losses)) + n) (lines-ceded shares ts (eventAfter shares ts y e) es)
 
 -- the ceded of a run is what the treaties' formulas cede of its losses, added
-pub run-ceded : (n : ℕ) (ts : List Treaty) → chained treatyPasses treatyNumber n ts ≡ true
-    → (y : Year) (es : List Event) → totals (eventLines ts y es) .ceded ≡ cededByAll ts es
-run-ceded n ts p y es = lines-ceded ts y es ∙ events-ceded n ts p es
+pub run-ceded : (shares : List ℕ) (n : ℕ) (ts : List Treaty) → chained treatyPasses treatyNumber n ts ≡ true
+    → (y : Year) (es : List Event) → totals (eventLines shares ts y es) .ceded ≡ cededByAll ts es
+run-ceded shares n ts p y es = lines-ceded shares ts y es ∙ events-ceded n ts p es
 
 -- the gross of events put together
 pub gross-append : (es fs : List Event) → grossIn (es ++ fs) ≡ grossIn es + grossIn fs

@@ -16,13 +16,13 @@ use Rattle.treaty.specs.Treaty.{cededOf, cutToLimit, cededOfLoss}
 use Rattle.treaty.specs.Losses.{cededIn}
 use Rattle.layer.specs.declared.terms.Terms.{Terms}
 use Rattle.layer.specs.Layer.{termsOf, broughtBy, layerOf, recoveriesOf, placedOf, recoveredOf, ratedOf, premiumOf}
-use Rattle.layer.specs.Layer.{recoveryOf, chargeOf}
+use Rattle.layer.specs.Layer.{recoveryOf, dueFor, dueOf, timedPart, timedMost, yearPremium}
 use Rattle.answer.specs.Outcome.{Outcome, fitted, answerOf, bufferAfter}
 use Rattle.programme.specs.declared.contract.Programme.{Programme}
 use Rattle.programme.specs.Ranges.{outside, treatyOutside, ratesOutside, termsOutside, treatyNotZero, termsNotZero}
 use Rattle.programme.specs.Rules.{treatyFault, layerFault}
 use Rattle.programme.specs.Valid.{validTreaties, validLayers, valid}
-use Rattle.table_text.specs.Forms.{kindOf, ratesText, layerNumbers, formOfKind, formOf}
+use Rattle.table_text.specs.Forms.{kindOf, ratesText, layerNumbers, tailTime, layerTerms, formOfKind, formOf}
 use Rattle.table_text.specs.Read.{readFrom, readOf}
 use Rattle.events.specs.Event.{closes, lossesUpTo, eventOf}
 use Rattle.events.specs.Rules.{lossOutside, eventOutside, lacking, eventFault}
@@ -30,7 +30,7 @@ use Rattle.events.specs.Read.{eventsOf, readFrom as eventsFrom}
 use Rattle.year.specs.Event.{subjectOf}
 use Rattle.year.specs.Statement.{statementText}
 use Rattle.year.specs.Standing.{openOf, standingPasses}
-use Rattle.year.specs.Run.{Left, runFrom, runOf, standingAfter}
+use Rattle.year.specs.Run.{Left, runFrom, runUnder, runOf, standingAfter}
 
 -- the table of H1, the run of its event text from an opened year, and the statement that it prints
 abbrev h1-table : List ℕ
@@ -55,7 +55,7 @@ h1-statement =
 
 -- the layer of L4
 abbrev l4 : Terms
-l4 = termsOf 500000 500000 1000000 1 0 (0 ∷ []) 10000
+l4 = termsOf 500000 500000 1000000 1 0 (0 ∷ []) 10000 0
 
 pub record Checked : Type 0 where
   -- the table is read, a year opened, the events text run, and the statement is in front of the buffer's other bytes
@@ -64,7 +64,13 @@ pub record Checked : Type 0 where
   pub H1-answer : answerOf h1-run ≡ record { refusal = 0; number = length h1-statement }
   pub H1-buffer : bufferAfter h1-run (replicate 444 7) ≡ h1-statement ++ (7 ∷ [])
   pub H1-standing : standingAfter h1-run (openOf h1 .standing)
-      ≡ record { risk = inPlaces 0 []; cat = inPlaces 0 (75000000 ∷ 150000000 ∷ 100000000 ∷ []); day = 230 }
+      ≡ record {
+        risk = inPlaces 0 [];
+        cat = inPlaces 0 (75000000 ∷ 150000000 ∷ 100000000 ∷ []);
+        day = 230;
+        «risk_timed» = inPlaces 0 [];
+        «cat_timed» = inPlaces 0 [];
+      }
   -- quota 4,000 bp; C1 holds at any E
   pub C1 : (e : ℕ) → cessions (quotaOf 1 4000 0 0) (lossOf 1 e 101 ∷ []) ≡ 40 ∷ []
   pub C2 : cessions (quotaOf 1 4000 20000 0) (lossOf 1 25000 10000 ∷ []) ≡ 3200 ∷ []
@@ -81,23 +87,23 @@ pub record Checked : Type 0 where
   pub C7 : cessions (surplusOf 1 10000 3 0) (lossOf 1 40000 8000 ∷ []) ≡ 6000 ∷ []
   pub C8 : cessions (surplusOf 1 10000 3 0) (lossOf 1 50000 8000 ∷ []) ≡ 4800 ∷ []
   -- attachment 50
-  pub L1 : map (broughtBy (termsOf 50 100 0 0 0 [] 10000)) (50 ∷ 51 ∷ []) ≡ 0 ∷ 1 ∷ []
+  pub L1 : map (broughtBy (termsOf 50 100 0 0 0 [] 10000 0)) (50 ∷ 51 ∷ []) ≡ 0 ∷ 1 ∷ []
   -- two layer losses of 1, placed 5,000: half a cent goes up, and then 1 is recovered already
-  pub L2 : recoveriesOf (layerOf (termsOf 0 100 0 0 0 [] 5000) 0) (1 ∷ 1 ∷ []) ≡ 1 ∷ 0 ∷ []
+  pub L2 : recoveriesOf (layerOf (termsOf 0 100 0 0 0 [] 5000 0) 0 0) (1 ∷ 1 ∷ []) ≡ 1 ∷ 0 ∷ []
   -- used 150 and used 200, with one reinstatement of 100
-  pub L3 : map (premiumOf (termsOf 0 100 0 1 1000 (10000 ∷ []) 10000)) (150 ∷ 200 ∷ []) ≡ 1000 ∷ 1000 ∷ []
+  pub L3 : map (premiumOf (termsOf 0 100 0 1 1000 (10000 ∷ []) 10000 0)) (150 ∷ 200 ∷ []) ≡ 1000 ∷ 1000 ∷ []
   -- the five losses of source document 000
-  pub L4 : recoveriesOf (layerOf l4 0) (map (broughtBy l4) (750000 ∷ 2000000 ∷ 1000000 ∷ 250000 ∷ 1000000 ∷ []))
+  pub L4 : recoveriesOf (layerOf l4 0 0) (map (broughtBy l4) (750000 ∷ 2000000 ∷ 1000000 ∷ 250000 ∷ 1000000 ∷ []))
       ≡ 0 ∷ 0 ∷ 250000 ∷ 0 ∷ 500000 ∷ []
 
 pub checked : Checked
 unfolding
-    rounded printedBy printed digitOf readOn number capital filled matched wholeOf lineNumbers linesOf
-    cededByQuota cededBySurplus cededOf cutToLimit cededOfLoss placedOf recoveredOf ratedOf premiumOf recoveryOf
-    chargeOf kindOf ratesText layerNumbers formOfKind formOf outside treatyOutside ratesOutside termsOutside
-    treatyNotZero termsNotZero treatyFault layerFault readFrom readOf validTreaties validLayers valid closes
-    lossesUpTo eventOf lossOutside eventOutside lacking eventFault eventsOf eventsFrom cededIn subjectOf
-    statementText openOf standingPasses fitted runFrom runOf
+    rounded printedBy printed digitOf readOn number capital filled matched wholeOf lineNumbers linesOf cededByQuota
+    cededBySurplus cededOf cutToLimit cededOfLoss placedOf recoveredOf ratedOf premiumOf recoveryOf dueFor dueOf
+    timedPart timedMost yearPremium kindOf ratesText layerNumbers tailTime layerTerms formOfKind formOf outside
+    treatyOutside ratesOutside termsOutside treatyNotZero termsNotZero treatyFault layerFault readFrom readOf
+    validTreaties validLayers valid closes lossesUpTo eventOf lossOutside eventOutside lacking eventFault eventsOf
+    eventsFrom cededIn subjectOf statementText openOf standingPasses fitted runFrom runUnder
 checked = record {
   H1-table = refl;
   H1-opening = refl;

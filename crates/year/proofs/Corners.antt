@@ -12,7 +12,8 @@ use Rattle.text.specs.Number.{printedBy, printed, digitOf, readOn, number}
 use Rattle.text.specs.Template.{capital, filled, matched}
 use Rattle.text.specs.Lines.{linesOf}
 use Rattle.treaty.specs.Treaty.{quotaOf}
-use Rattle.layer.specs.Layer.{termsOf, placedOf, recoveredOf, ratedOf, premiumOf, recoveryOf, chargeOf}
+use Rattle.layer.specs.Layer.{termsOf, placedOf, recoveredOf, ratedOf, premiumOf, recoveryOf, dueFor, dueOf, timedPart}
+use Rattle.layer.specs.Layer.{timedMost, yearPremium}
 use Rattle.answer.specs.declared.Answer.{Answer}
 use Rattle.answer.specs.Outcome.{Outcome, fitted, answerOf, bufferAfter}
 use Rattle.programme.specs.declared.contract.Programme.{Programme}
@@ -26,22 +27,22 @@ use Rattle.year.specs.declared.Standing.{Standing}
 use Rattle.year.specs.Event.{subjectOf}
 use Rattle.year.specs.Statement.{statementText}
 use Rattle.year.specs.Standing.{fresh, standingPasses, openOf}
-use Rattle.year.specs.Run.{Left, runFrom, runOf, standingAfter}
+use Rattle.year.specs.Run.{Left, runFrom, runUnder, runOf, standingAfter}
 use Rattle.year.proofs.Examples.{standing}
 
 -- one treaty, one risk layer with a cap of 3,100 and one catastrophe layer with a cap of 3,000
 abbrev programme : Programme
 programme = programmeOf (record {
   treaties = quotaOf 2 4000 0 0 ∷ [];
-  risk = termsOf 500 1000 100 2 800 (5000 ∷ 5000 ∷ []) 3330 ∷ [];
-  cat = termsOf 2000 3000 0 0 0 [] 7200 ∷ [];
+  risk = termsOf 500 1000 100 2 800 (5000 ∷ 5000 ∷ []) 3330 0 ∷ [];
+  cat = termsOf 2000 3000 0 0 0 [] 7200 0 ∷ [];
 })
 
 -- bands that overlap by a cent
 abbrev overlapping : Programme
 overlapping = programmeOf (record {
   treaties = [];
-  risk = termsOf 50 50 0 0 0 [] 7200 ∷ termsOf 99 1 0 0 0 [] 7200 ∷ [];
+  risk = termsOf 50 50 0 0 0 [] 7200 0 ∷ termsOf 99 1 0 0 0 [] 7200 0 ∷ [];
   cat = [];
 })
 
@@ -92,12 +93,16 @@ pub record Corners : Type 0 where
         risk = 1234 ∷ 0 ∷ 0 ∷ 0 ∷ 0 ∷ 0 ∷ 0 ∷ 0 ∷ [];
         cat = 567 ∷ 0 ∷ 0 ∷ 0 ∷ 0 ∷ 0 ∷ 0 ∷ 0 ∷ [];
         day = 230;
+        «risk_timed» = 0 ∷ 0 ∷ 0 ∷ 0 ∷ 0 ∷ 0 ∷ 0 ∷ 0 ∷ [];
+        «cat_timed» = 0 ∷ 0 ∷ 0 ∷ 0 ∷ 0 ∷ 0 ∷ 0 ∷ 0 ∷ [];
       }
   pub kept-last-day : standingAfter (emptyRun 366) (standing (1234 ∷ []) (567 ∷ []) 366)
       ≡ record {
         risk = 1234 ∷ 0 ∷ 0 ∷ 0 ∷ 0 ∷ 0 ∷ 0 ∷ 0 ∷ [];
         cat = 567 ∷ 0 ∷ 0 ∷ 0 ∷ 0 ∷ 0 ∷ 0 ∷ 0 ∷ [];
         day = 366;
+        «risk_timed» = 0 ∷ 0 ∷ 0 ∷ 0 ∷ 0 ∷ 0 ∷ 0 ∷ 0 ∷ [];
+        «cat_timed» = 0 ∷ 0 ∷ 0 ∷ 0 ∷ 0 ∷ 0 ∷ 0 ∷ 0 ∷ [];
       }
   pub kept-statement : bufferAfter (emptyRun 230) (replicate 230 7)
       ≡ bytes "(treaty 2 (ceded 0))\n"
@@ -116,10 +121,10 @@ pub record Corners : Type 0 where
 
 pub corners : Corners
 unfolding
-    rounded printedBy printed digitOf readOn number capital filled matched linesOf placedOf recoveredOf
-    ratedOf premiumOf recoveryOf chargeOf outside treatyOutside ratesOutside termsOutside treatyNotZero termsNotZero
-    validTreaties validLayers valid closes lossesUpTo eventOf lossOutside eventOutside lacking eventFault eventsOf
-    readFrom subjectOf statementText standingPasses openOf fitted runFrom runOf
+    rounded printedBy printed digitOf readOn number capital filled matched linesOf placedOf recoveredOf ratedOf
+    premiumOf recoveryOf dueFor dueOf timedPart timedMost yearPremium outside treatyOutside ratesOutside termsOutside
+    treatyNotZero termsNotZero validTreaties validLayers valid closes lossesUpTo eventOf lossOutside eventOutside
+    lacking eventFault eventsOf readFrom subjectOf statementText standingPasses openOf fitted runFrom runUnder
 corners = record {
   invalid = refl;
   invalid-first = refl;

@@ -15,14 +15,16 @@ use Rattle.text.specs.Template.{capital, filled, matched, wholeOf, lineNumbers}
 use Rattle.text.specs.Lines.{linesOf}
 use Rattle.treaty.specs.Treaty.{cededByQuota, cededBySurplus, cededOf, cutToLimit, cededOfLoss}
 use Rattle.treaty.specs.Losses.{cededIn}
-use Rattle.layer.specs.Layer.{placedOf, recoveredOf, ratedOf, premiumOf, recoveryOf, chargeOf}
+use Rattle.layer.specs.Layer.{placedOf, recoveredOf, ratedOf, premiumOf, recoveryOf, dueFor, dueOf, timedPart}
+use Rattle.layer.specs.Layer.{timedMost, yearPremium}
+use Rattle.scale.specs.Scale.{timeShares}
 use Rattle.answer.specs.Outcome.{fitted}
 use Rattle.programme.specs.declared.contract.Programme.{Programme}
 use Rattle.programme.specs.Contracts.{contractsIn}
 use Rattle.programme.specs.Ranges.{outside, treatyOutside, ratesOutside, termsOutside, treatyNotZero, termsNotZero}
 use Rattle.programme.specs.Rules.{treatyFault, layerFault}
 use Rattle.programme.specs.Valid.{validTreaties, validLayers, valid}
-use Rattle.table_text.specs.Forms.{kindOf, ratesText, layerNumbers, formOfKind, formOf}
+use Rattle.table_text.specs.Forms.{kindOf, ratesText, layerNumbers, tailTime, layerTerms, formOfKind, formOf}
 use Rattle.table_text.specs.Read.{readFrom, readOf}
 use Rattle.events.specs.Event.{closes, lossesUpTo, eventOf, statedIn}
 use Rattle.events.specs.Rules.{lossOutside, eventOutside, lacking, eventFault}
@@ -32,11 +34,11 @@ use Rattle.year.specs.Tiers.{TierName, risk, cat}
 use Rattle.year.specs.Event.{subjectOf}
 use Rattle.year.specs.Statement.{statementText}
 use Rattle.year.specs.Standing.{fresh, standingPasses}
-use Rattle.year.specs.Run.{runFrom, runOf}
+use Rattle.year.specs.Run.{runFrom, runUnder}
 use Rattle.year.specs.Ledger.{Entry, recoveryAdded}
 use Rattle.year.specs.History.{Call, Reply, repliesIn, standingOfHistory, statementsOf, ledgerOfHistory, endsOn}
-use Rattle.year.specs.History.{repliesAfter, spentIn, lastShown, recoveriesIn, recoveredIn, recoveriesOfTier}
-use Rattle.year.specs.History.{summed, eventsOfHistory, grossIn, cededByAll}
+use Rattle.year.specs.History.{repliesAfter, spentIn, recoveredShown, lastShown, recoveriesIn, recoveredIn}
+use Rattle.year.specs.History.{recoveriesOfTier, summed, eventsOfHistory, grossIn, cededByAll}
 use Rattle.year.proofs.Parts.{lineByLine}
 
 -- a quota share with an event limit, a surplus, two risk layers and two catastrophe layers
@@ -115,8 +117,15 @@ small = call "(event 9 (loss 0 20000 3500))\n" ∷ []
 abbrev aCentMore : List Call
 aCentMore = call "(event 9 (loss 0 20000 3501))\n" ∷ []
 
+-- a standing without timed premiums
 abbrev pub standing : (risk cat : List ℕ) (day : ℕ) → Standing
-standing r c d = record { risk = inPlaces 0 r; cat = inPlaces 0 c; day = d }
+standing r c d = record {
+  risk = inPlaces 0 r;
+  cat = inPlaces 0 c;
+  day = d;
+  «risk_timed» = inPlaces 0 [];
+  «cat_timed» = inPlaces 0 [];
+}
 
 -- the statement of an empty text after one loss above the risk bands, with the catastrophe layers' lines
 abbrev withoutEvents : (cat1 cat2 : String) → List ℕ
@@ -148,31 +157,35 @@ aCentMoreText =
 
 pub record Examples : Type 0 where
   -- a history with a refused run between two accepted ones: results, bytes, standing, ledger and sums
-  pub replies : repliesIn programme fresh history
+  pub replies : repliesIn timeShares programme fresh history
       ≡ answered 0 595 (firstText ++ replicate 5 7)
       ∷ answered 13 1 (replicate 600 7)
       ∷ answered 0 496 (secondText ++ replicate 104 7) ∷ []
-  pub unmoved : standingOfHistory programme (first ∷ early ∷ [])
+  pub unmoved : standingOfHistory timeShares programme (first ∷ early ∷ [])
       ≡ standing (3380 ∷ 2700 ∷ []) (3390 ∷ 2500 ∷ []) 20
-  pub left : standingOfHistory programme history ≡ standing (4100 ∷ 3600 ∷ []) (4509 ∷ 2500 ∷ []) 31
-  pub uncut : map (λ (e : Entry). e .losses) (ledgerOfHistory programme history .risk) ≡ 4781 ∷ 3600 ∷ []
-  pub cutOff : spentIn (ledgerOfHistory programme history .risk) ≡ 4100 ∷ 3600 ∷ []
-  pub recoveries : recoveriesIn (ledgerOfHistory programme history .cat) ≡ 2886 ∷ 2438 ∷ []
-  pub sums : summed (statementsOf programme history)
+  pub left : standingOfHistory timeShares programme history ≡ standing (4100 ∷ 3600 ∷ []) (4509 ∷ 2500 ∷ []) 31
+  pub uncut : map (λ (e : Entry). e .losses) (ledgerOfHistory timeShares programme history .risk) ≡ 4781 ∷ 3600 ∷ []
+  pub cutOff : spentIn (ledgerOfHistory timeShares programme history .risk) ≡ 4100 ∷ 3600 ∷ []
+  pub recoveries : recoveriesIn (ledgerOfHistory timeShares programme history .cat) ≡ 2886 ∷ 2438 ∷ []
+  pub sums : summed (statementsOf timeShares programme history)
       ≡ record { gross = 31305; ceded = 11088; risk = 4843; cat = 5324; net = 10050; premium = 1461 }
-  pub gross : grossIn (eventsOfHistory programme history) ≡ 31305
-  pub ceded : cededByAll (contractsIn programme .treaties) (eventsOfHistory programme history) ≡ 11088
-  pub ends : endsOn programme history ≡ 31
+  pub gross : grossIn (eventsOfHistory timeShares programme history) ≡ 31305
+  pub ceded : cededByAll (contractsIn programme .treaties) (eventsOfHistory timeShares programme history) ≡ 11088
+  pub ends : endsOn timeShares programme history ≡ 31
   -- on day 0 without an event: no run, an empty text, a refused one
-  pub ends-on-0 : map (endsOn programme) ([] ∷ (call "" ∷ []) ∷ (call "(event 367)\n" ∷ []) ∷ []) ≡ 0 ∷ 0 ∷ 0 ∷ []
+  pub ends-on-0 : map (endsOn timeShares programme) ([] ∷ (call "" ∷ []) ∷ (call "(event 367)\n" ∷ []) ∷ [])
+      ≡ 0 ∷ 0 ∷ 0 ∷ []
   -- what each layer has recovered: by its line in the last statement, by the ledger's sums, from its spent amount
-  pub shown-risk : lastShown risk (0 ∷ 0 ∷ []) (statementsOf programme history) ≡ 1333 ∷ 3510 ∷ []
-  pub shown-cat : lastShown cat (0 ∷ 0 ∷ []) (statementsOf programme history) ≡ 2886 ∷ 2438 ∷ []
-  pub shown-without : lastShown cat (0 ∷ 0 ∷ []) (statementsOf programme []) ≡ 0 ∷ 0 ∷ []
-  pub recoveries-risk : recoveriesIn (ledgerOfHistory programme history .risk) ≡ 1333 ∷ 3510 ∷ []
-  pub recovered-risk : recoveredIn (ledgerOfHistory programme history .risk) ≡ 1333 ∷ 3510 ∷ []
+  pub shown-risk : lastShown (recoveredShown risk) (0 ∷ 0 ∷ []) (statementsOf timeShares programme history)
+      ≡ 1333 ∷ 3510 ∷ []
+  pub shown-cat : lastShown (recoveredShown cat) (0 ∷ 0 ∷ []) (statementsOf timeShares programme history)
+      ≡ 2886 ∷ 2438 ∷ []
+  pub shown-without : lastShown (recoveredShown cat) (0 ∷ 0 ∷ []) (statementsOf timeShares programme []) ≡ 0 ∷ 0 ∷ []
+  pub recoveries-risk : recoveriesIn (ledgerOfHistory timeShares programme history .risk) ≡ 1333 ∷ 3510 ∷ []
+  pub recovered-risk : recoveredIn (ledgerOfHistory timeShares programme history .risk) ≡ 1333 ∷ 3510 ∷ []
   -- what each tier has recovered
-  pub tiers : map (λ (n : TierName). recoveriesOfTier n (summed (statementsOf programme history))) (risk ∷ cat ∷ [])
+  pub tiers :
+      map (λ (n : TierName). recoveriesOfTier n (summed (statementsOf timeShares programme history))) (risk ∷ cat ∷ [])
       ≡ 4843 ∷ 5324 ∷ []
   -- the treaties' lines of both statements, added line by line
   pub treaties-added :
@@ -180,29 +193,32 @@ pub record Examples : Type 0 where
       (record { number = 1; ceded = 0 } ∷ record { number = 3; ceded = 1668 } ∷ [])
       ≡ record { number = 1; ceded = 8400 } ∷ record { number = 3; ceded = 2688 } ∷ []
   -- an empty text keeps the last day
-  pub kept : standingOfHistory programme (first ∷ call "" ∷ [])
+  pub kept : standingOfHistory timeShares programme (first ∷ call "" ∷ [])
       ≡ standing (3380 ∷ 2700 ∷ []) (3390 ∷ 2500 ∷ []) 20
   -- two different histories with the same spent amounts, and a later run that is answered alike
-  pub same : standingOfHistory programme large ≡ standing (1000 ∷ 900 ∷ []) (3000 ∷ 2500 ∷ []) 9
-  pub same-too : standingOfHistory programme larger ≡ standing (1000 ∷ 900 ∷ []) (3000 ∷ 2500 ∷ []) 9
-  pub alike : repliesAfter programme large (call "" ∷ []) ≡ answered 0 399 (largeText ++ replicate 201 7) ∷ []
-  pub alike-too : repliesAfter programme larger (call "" ∷ []) ≡ answered 0 399 (largeText ++ replicate 201 7) ∷ []
+  pub same : standingOfHistory timeShares programme large ≡ standing (1000 ∷ 900 ∷ []) (3000 ∷ 2500 ∷ []) 9
+  pub same-too : standingOfHistory timeShares programme larger ≡ standing (1000 ∷ 900 ∷ []) (3000 ∷ 2500 ∷ []) 9
+  pub alike : repliesAfter timeShares programme large (call "" ∷ [])
+      ≡ answered 0 399 (largeText ++ replicate 201 7) ∷ []
+  pub alike-too : repliesAfter timeShares programme larger (call "" ∷ [])
+      ≡ answered 0 399 (largeText ++ replicate 201 7) ∷ []
   -- two histories with different ones, and the later run that tells them apart
-  pub told : repliesAfter programme small (call "" ∷ []) ≡ answered 0 391 (smallText ++ replicate 209 7) ∷ []
-  pub told-apart : repliesAfter programme aCentMore (call "" ∷ [])
+  pub told : repliesAfter timeShares programme small (call "" ∷ [])
+      ≡ answered 0 391 (smallText ++ replicate 209 7) ∷ []
+  pub told-apart : repliesAfter timeShares programme aCentMore (call "" ∷ [])
       ≡ answered 0 391 (aCentMoreText ++ replicate 209 7) ∷ []
   -- histories that end on days 0 and 1 are answered alike by the first day that can be run
-  pub day-0-or-1 : repliesAfter programme [] (call "(event 1 (loss 0 1 9))\n" ∷ [])
-      ≡ repliesAfter programme (call "(event 1)\n" ∷ []) (call "(event 1 (loss 0 1 9))\n" ∷ [])
+  pub day-0-or-1 : repliesAfter timeShares programme [] (call "(event 1 (loss 0 1 9))\n" ∷ [])
+      ≡ repliesAfter timeShares programme (call "(event 1)\n" ∷ []) (call "(event 1 (loss 0 1 9))\n" ∷ [])
 
 pub examples : Examples
 unfolding
-    rounded printedBy printed digitOf readOn number capital filled matched wholeOf lineNumbers linesOf
-    cededByQuota cededBySurplus cededOf cutToLimit cededOfLoss placedOf recoveredOf ratedOf premiumOf recoveryOf
-    chargeOf kindOf ratesText layerNumbers formOfKind formOf outside treatyOutside ratesOutside termsOutside
-    treatyNotZero termsNotZero treatyFault layerFault readFrom readOf validTreaties validLayers valid closes
-    lossesUpTo eventOf statedIn lossOutside eventOutside lacking eventFault eventsOf eventsFrom cededIn subjectOf
-    statementText standingPasses fitted runFrom runOf recoveryAdded
+    rounded printedBy printed digitOf readOn number capital filled matched wholeOf lineNumbers linesOf cededByQuota
+    cededBySurplus cededOf cutToLimit cededOfLoss placedOf recoveredOf ratedOf premiumOf recoveryOf dueFor dueOf
+    timedPart timedMost yearPremium kindOf ratesText layerNumbers tailTime layerTerms formOfKind formOf outside
+    treatyOutside ratesOutside termsOutside treatyNotZero termsNotZero treatyFault layerFault readFrom readOf
+    validTreaties validLayers valid closes lossesUpTo eventOf statedIn lossOutside eventOutside lacking eventFault
+    eventsOf eventsFrom cededIn subjectOf statementText standingPasses fitted runFrom runUnder recoveryAdded
 examples = record {
   replies = refl;
   unmoved = refl;

@@ -1,12 +1,16 @@
 pub mod Treaties
 pub mod Layers
+pub mod YearPremiums
+pub mod PremiumGrowth
 pub mod Balance
-pub mod RatesApart
+pub mod PremiumApart
+pub mod Untimed
 pub mod Parts
 pub mod StatementsTell
 pub mod Size
 pub mod StatementLayout
 pub mod Worked
+pub mod TimeWorked
 pub mod Cutting
 pub mod Books
 pub mod Running

@@ -3,7 +3,9 @@
 -- Assumes nothing.
 use mathlib.Core.Path.{sym, subst}
 use mathlib.Core.List.{List, []}
+use Prim.Native.Nat.{ℕ}
 use Rattle.lists.proofs.Cases.{by-test}
+use Rattle.scale.specs.Scale.{Fair}
 use Rattle.programme.specs.declared.contract.Programme.{Programme}
 use Rattle.programme.specs.Contracts.{contractsIn}
 use Rattle.programme.specs.Valid.{valid}
@@ -14,12 +16,13 @@ use Rattle.year.proofs.Layers.{Under}
 use Rattle.year.proofs.Balance.{ExactFrom, events-exact}
 use Rattle.year.proofs.Following.{year-under, stands, year-from}
 
-module _ (p : Programme) where
+module _ (shares : List ℕ) (fair : Fair shares) (p : Programme) where
   -- for every programme and every history
   pub every-event-exact : (h : List Call)
-      → ExactFrom (contractsIn p .treaties) (yearOf (contractsIn p) fresh) (eventsOfHistory p h)
+      → ExactFrom shares (contractsIn p .treaties) (yearOf (contractsIn p) fresh) (eventsOfHistory shares p h)
   every-event-exact h =
       by-test (valid p)
-      (λ v. events-exact (contractsIn p) (valid-lawful p (sym v)) (yearOf (contractsIn p) fresh) (eventsOfHistory p h)
-      (subst (Under (contractsIn p)) (sym (year-from p [] (sym v))) (year-under p [])))
-      (λ v. rw (stands p h .none (sym v) .1) tt)
+      (λ v. events-exact shares fair (contractsIn p) (valid-lawful p (sym v)) (yearOf (contractsIn p) fresh)
+      (eventsOfHistory shares p h)
+      (subst (Under (contractsIn p)) (sym (year-from shares fair p [] (sym v))) (year-under shares fair p (sym v) [])))
+      (λ v. rw (stands shares fair p h .none (sym v) .1) tt)

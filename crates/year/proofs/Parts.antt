@@ -13,19 +13,21 @@ use Rattle.year.specs.declared.Amounts.{Amounts}
 use Rattle.year.specs.Event.{Year, eventAfter, eventAmounts, yearAfter}
 use Rattle.year.specs.Statement.{EventLine, eventLines, TreatyLine, treatyLineOf, added, totals}
 
-module _ (ts : List Treaty) where
+module _ (shares : List ℕ) (ts : List Treaty) where
   -- the year after both is the year after the second from the year after the first
-  pub year-append : (y : Year) (es fs : List Event) → yearAfter ts y (es ++ fs) ≡ yearAfter ts (yearAfter ts y es) fs
+  pub year-append : (y : Year) (es fs : List Event)
+      → yearAfter shares ts y (es ++ fs) ≡ yearAfter shares ts (yearAfter shares ts y es) fs
   year-append y [] fs = refl
-  year-append y (e ∷ es) fs = year-append (eventAfter ts y e) es fs
+  year-append y (e ∷ es) fs = year-append (eventAfter shares ts y e) es fs
 
   -- the lines of the first, then those of the second from the year after the first
   pub event-lines-append : (y : Year) (es fs : List Event)
-      → eventLines ts y (es ++ fs) ≡ eventLines ts y es ++ eventLines ts (yearAfter ts y es) fs
+      → eventLines shares ts y (es ++ fs)
+      ≡ eventLines shares ts y es ++ eventLines shares ts (yearAfter shares ts y es) fs
   event-lines-append y [] fs = refl
   event-lines-append y (e ∷ es) fs =
-      ap (λ (ls : List EventLine). record { day = e .day; amounts = eventAmounts ts y e } ∷ ls)
-      (event-lines-append (eventAfter ts y e) es fs)
+      ap (λ (ls : List EventLine). record { day = e .day; amounts = eventAmounts shares ts y e } ∷ ls)
+      (event-lines-append (eventAfter shares ts y e) es fs)
 
 -- the numbers of treaties' lines
 abbrev pub numbersIn : List TreatyLine → List ℕ

@@ -13,7 +13,7 @@ use Rattle.text.proofs.Digits.{Readable}
 use Rattle.text.proofs.Lengths.{filled-length}
 use Rattle.treaty.specs.declared.Treaty.{Treaty}
 use Rattle.layer.specs.declared.record.Layer.{Layer}
-use Rattle.layer.specs.Layer.{capOf, usedOf, recoveredOf, layerOf}
+use Rattle.layer.specs.Layer.{capOf, usedOf, recoveredOf, layerOf, yearPremium}
 use Rattle.layer.specs.Ranges.{Sound}
 use Rattle.layer.proofs.Bounds.{placed-le, used-le, spent-le}
 use Rattle.layer.proofs.Premiums.{premium-le}
@@ -21,6 +21,7 @@ use Rattle.year.specs.Event.{Year}
 use Rattle.year.specs.Statement.{layerLineOf, treatyLineOf, Line, treatyTemplate, riskTemplate, catTemplate}
 use Rattle.year.specs.Statement.{treatyShown, layersShown, totalShown, totals, statementOf, statementText}
 use Rattle.year.specs.Statement.{layerNumbers}
+use Rattle.year.proofs.YearPremiums.{year-premium-le}
 use Rattle.year.proofs.StatementsTell.{textOf}
 
 -- a template that prints at most 160 bytes with numbers of at most sixteen digits
@@ -34,12 +35,23 @@ line-short t ns s h z = omega (arith, length-append (filled t ns []) (10 ∷ s),
 
 module _ (y : Layer) (s : Sound y) where
   cap-le : capOf (y .terms) ≤ 1210000000000000
-  cap-le = spent-le (layerOf (y .terms) (capOf (y .terms))) (record { terms = s .terms; spent = le-refl _ })
+  cap-le =
+      spent-le (layerOf (y .terms) (capOf (y .terms)) 0)
+      (record { terms = s .terms; spent = le-refl _; timed = omega arith })
 
   recovered-le : recoveredOf (y .terms) (y .spent .0) ≤ 210000000000000
   unfolding recoveredOf
   recovered-le =
       omega (arith, placed-le (y .terms) (usedOf (y .terms) (y .spent .0)) (s .terms .placed), used-le y s, s .terms)
+
+  premium-small : yearPremium y ≤ 40000000000000
+  premium-small =
+      omega (
+        arith,
+        year-premium-le y (s .timed),
+        premium-le (y .terms) (s .terms) (y .spent .0),
+        s .terms .premium,
+      )
 
 -- the numbers of a layer's line
 layer-readable : (i : ℕ) → i ≤ 8 → (y : Layer) → Sound y → Each Readable (layerNumbers i (layerLineOf y))
@@ -51,7 +63,7 @@ layer-readable i h y s = (
       omega (arith, cap-le y s),
       (
         omega (arith, recovered-le y s),
-        (omega (arith, premium-le (y .terms) (s .terms) (y .spent .0), s .terms .premium), tt),
+        (omega (arith, premium-small y s), tt),
       ),
     ),
   ),
@@ -86,11 +98,12 @@ unfolding printedBy printed capital filled
 total-short = lit≤ tt
 
 -- the statement of a run without events, with at most eight treaties and eight layers of each tier
-pub no-events-short : (ts : List Treaty) (y : Year) → length ts ≤ 8 → Each (λ (t : Treaty). t .number ≤ 8) ts
-    → length (y .risk) ≤ 8 → length (y .cat) ≤ 8 → Each Sound (y .risk) → Each Sound (y .cat)
-    → length (statementText (statementOf ts y [])) ≤ 32768
+pub no-events-short : (shares : List ℕ) (ts : List Treaty) (y : Year) → length ts ≤ 8
+    → Each (λ (t : Treaty). t .number ≤ 8) ts → length (y .risk) ≤ 8 → length (y .cat) ≤ 8 → Each Sound (y .risk)
+    → Each Sound (y .cat)
+    → length (statementText (statementOf shares ts y [])) ≤ 32768
 unfolding statementText holes capital
-no-events-short ts y n z nr nc r c =
+no-events-short shares ts y n z nr nc r c =
     let total = totalShown (totals []) ∷ [] in
     let cat = layersShown catTemplate 1 (map layerLineOf (y .cat)) ++ total in
     let risk = layersShown riskTemplate 1 (map layerLineOf (y .risk)) ++ cat in

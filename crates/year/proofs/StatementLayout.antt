@@ -61,7 +61,7 @@ every-kind-lines =
 pub record Layout : Type 0 where
   pub every-line : statementText every-kind ≡ joined (map bytes every-kind-lines)
   -- no contracts and no events: the totals alone
-  pub nothing : statementText (statementOf [] (record { risk = []; cat = [] }) [])
+  pub nothing : statementText (statementOf [] [] (record { risk = []; cat = [] }) [])
       ≡ bytes "(total (gross 0) (ceded 0) (risk 0) (cat 0) (net 0) (premium 0))\n"
 
 pub layout : Layout

@@ -10,7 +10,9 @@ use Rattle.treaty.specs.declared.Treaty.{Treaty}
 use Rattle.treaty.specs.Treaty.{quotaOf, surplusOf, lossOf, cededByQuota, cededBySurplus, cededOf}
 use Rattle.treaty.specs.Treaty.{cutToLimit, cededOfLoss}
 use Rattle.treaty.specs.Losses.{cededIn}
-use Rattle.layer.specs.Layer.{termsOf, layerOf, placedOf, recoveredOf, ratedOf, premiumOf, recoveryOf, chargeOf}
+use Rattle.layer.specs.Layer.{termsOf, layerOf, placedOf, recoveredOf, ratedOf, premiumOf, recoveryOf, dueFor, dueOf}
+use Rattle.layer.specs.Layer.{timedPart, yearPremium}
+use Rattle.scale.specs.Scale.{timeShares}
 use Rattle.events.specs.Event.{Event}
 use Rattle.year.specs.Event.{Year, subjectOf}
 use Rattle.year.specs.Statement.{Statement, statementOf}
@@ -24,11 +26,11 @@ treaties = quotaOf 4 3333 0 1232 ∷ surplusOf 6 900 3 0 ∷ []
 abbrev year : Year
 year = record {
   risk =
-      layerOf (termsOf 500 700 200 2 750 (4000 ∷ 4000 ∷ []) 3333) 0
-      ∷ layerOf (termsOf 1200 900 150 2 1000 (8000 ∷ 8000 ∷ []) 7201) 0 ∷ [];
+      layerOf (termsOf 500 700 200 2 750 (4000 ∷ 4000 ∷ []) 3333 0) 0 0
+      ∷ layerOf (termsOf 1200 900 150 2 1000 (8000 ∷ 8000 ∷ []) 7201 0) 0 0 ∷ [];
   cat =
-      layerOf (termsOf 1300 1100 250 1 1450 (6000 ∷ []) 9750) 0
-      ∷ layerOf (termsOf 2500 800 0 1 1100 (9000 ∷ []) 7201) 0 ∷ [];
+      layerOf (termsOf 1300 1100 250 1 1450 (6000 ∷ []) 9750 0) 0 0
+      ∷ layerOf (termsOf 2500 800 0 1 1100 (9000 ∷ []) 7201 0) 0 0 ∷ [];
 }
 
 -- Of the first event's losses the treaties leave 1,735, 1,660 and 823, for the last one's 396 are cut to what 868
@@ -63,10 +65,10 @@ shown = record {
   total = record { gross = 11962; ceded = 2816; risk = 2605; cat = 2911; net = 3630; premium = 2914 };
 }
 
-pub worked : statementOf treaties year events ≡ shown
+pub worked : statementOf timeShares treaties year events ≡ shown
 unfolding
     rounded cededByQuota cededBySurplus cededOf cutToLimit cededOfLoss cededIn placedOf recoveredOf ratedOf premiumOf
-    recoveryOf chargeOf subjectOf
+    recoveryOf dueFor dueOf timedPart yearPremium subjectOf
 worked = refl
 
 -- a quota share that takes at most 900 of an event, and a surplus that takes at most 1,300
@@ -96,15 +98,17 @@ limitedShown = record {
   total = record { gross = 12306; ceded = 4100; risk = 0; cat = 0; net = 8206; premium = 0 };
 }
 
-pub limits-worked : statementOf limitedTreaties (record { risk = []; cat = [] }) limitedEvents ≡ limitedShown
+pub limits-worked : statementOf timeShares limitedTreaties (record { risk = []; cat = [] }) limitedEvents
+    ≡ limitedShown
 unfolding rounded cededByQuota cededBySurplus cededOf cutToLimit cededOfLoss cededIn subjectOf
 limits-worked = refl
 
 -- The ledger's y of each loss: 900, 2,250, 1,000 and 851, then 2,698, 7 and 500. Above an attachment of 800, up to 600
 -- of each, they bring a layer 100 + 600 + 200 + 51 + 600; without the limits it would be less.
 pub limits-booked : map (λ (e : Entry). e .losses)
-    (booked limitedTreaties (record { risk = firstEntry (termsOf 800 600 0 1 0 (0 ∷ []) 10000) ∷ []; cat = [] })
-    limitedEvents .risk) ≡ 1551 ∷ []
+    (booked timeShares limitedTreaties
+    (record { risk = firstEntry (termsOf 800 600 0 1 0 (0 ∷ []) 10000 0) ∷ []; cat = [] }) limitedEvents .risk)
+    ≡ 1551 ∷ []
 unfolding rounded cededByQuota cededBySurplus cededOf cutToLimit cededOfLoss cededIn placedOf recoveredOf recoveryAdded
 limits-booked = refl
 
@@ -113,14 +117,14 @@ abbrev threeLayers : Year
 threeLayers = record {
   risk = [];
   cat =
-      layerOf (termsOf 100 31 0 1 10 (5000 ∷ []) 5000) 0 ∷ layerOf (termsOf 150 33 0 1 50 (10000 ∷ []) 3333) 0
-      ∷ layerOf (termsOf 200 37 0 2 37 (7500 ∷ 7500 ∷ []) 7201) 0 ∷ [];
+      layerOf (termsOf 100 31 0 1 10 (5000 ∷ []) 5000 0) 0 0 ∷ layerOf (termsOf 150 33 0 1 50 (10000 ∷ []) 3333 0) 0 0
+      ∷ layerOf (termsOf 200 37 0 2 37 (7500 ∷ 7500 ∷ []) 7201 0) 0 0 ∷ [];
 }
 
 -- Of 101 the quota share takes 50.5, which is 51, so the layers' subject is 250. It brings them 31, 33 and 37, of
 -- which they recover 15.5, 10.9989 and 26.6437: 16, 11 and 27, and 54 for the event. Net is 250 less 54. Premiums are
 -- 80 / 31, 550 / 33 and 27 × 3 / 4: 2.58, 16.67 and 20.25.
-pub rounded-up : statementOf (quotaOf 7 5000 0 0 ∷ []) threeLayers
+pub rounded-up : statementOf timeShares (quotaOf 7 5000 0 0 ∷ []) threeLayers
     (record { day = 77; losses = lossOf 7 1 101 ∷ lossOf 0 1 200 ∷ [] } ∷ [])
     ≡ record {
       events =
@@ -140,14 +144,14 @@ pub rounded-up : statementOf (quotaOf 7 5000 0 0 ∷ []) threeLayers
     }
 unfolding
     rounded cededByQuota cededBySurplus cededOf cutToLimit cededOfLoss cededIn placedOf recoveredOf ratedOf premiumOf
-    recoveryOf chargeOf subjectOf
+    recoveryOf dueFor dueOf timedPart yearPremium subjectOf
 rounded-up = refl
 
 -- A risk layer with three rates, and a catastrophe layer whose first reinstatement is free.
 abbrev ratedYear : Year
 ratedYear = record {
-  risk = layerOf (termsOf 300 400 100 3 999 (1 ∷ 20000 ∷ 7 ∷ []) 3333) 0 ∷ [];
-  cat = layerOf (termsOf 700 500 0 2 640 (0 ∷ 10000 ∷ []) 7201) 0 ∷ [];
+  risk = layerOf (termsOf 300 400 100 3 999 (1 ∷ 20000 ∷ 7 ∷ []) 3333 0) 0 0 ∷ [];
+  cat = layerOf (termsOf 700 500 0 2 640 (0 ∷ 10000 ∷ []) 7201 0) 0 0 ∷ [];
 }
 
 -- The quota share takes 300 and 278. The risk layer's used amount is 650, 1,451 and 1,600 after the events, the
@@ -161,7 +165,7 @@ ratedEvents =
 -- The risk layer's slices are 133 and 84, then 133, 134 and 133: 1,680,133 and 2,681,064 at their rates, and 999 of
 -- 4,000,000 of it 419.61 and 669.60. The catastrophe layer's are 360, then 360 and 360: nothing, then 460.8. The third
 -- event finds no reinstatement left.
-pub rates-worked : statementOf (quotaOf 2 2500 0 0 ∷ []) ratedYear ratedEvents
+pub rates-worked : statementOf timeShares (quotaOf 2 2500 0 0 ∷ []) ratedYear ratedEvents
     ≡ record {
       events =
           record {
@@ -185,5 +189,5 @@ pub rates-worked : statementOf (quotaOf 2 2500 0 0 ∷ []) ratedYear ratedEvents
     }
 unfolding
     rounded cededByQuota cededBySurplus cededOf cutToLimit cededOfLoss cededIn placedOf recoveredOf ratedOf premiumOf
-    recoveryOf chargeOf subjectOf
+    recoveryOf dueFor dueOf timedPart yearPremium subjectOf
 rates-worked = refl

@@ -1,5 +1,5 @@
--- Document 01, The year, first paragraph: histories, lists of runs under one programme from a fresh year, and later
--- lists of runs.
+-- Document 01, The year, first paragraph, with document 02's Q-4: histories, lists of runs under one programme and one
+-- table of time shares from a fresh year, and later lists of runs.
 -- Assumes nothing.
 use mathlib.Core.Bool.{Bool, true, false}
 use mathlib.Core.Path.{_≡_}
@@ -9,7 +9,7 @@ use lib.ListN.{length}
 use Rattle.lists.specs.Sums.{sumOf}
 use Rattle.treaty.specs.declared.Treaty.{Treaty}
 use Rattle.treaty.specs.Losses.{grossOf}
-use Rattle.layer.specs.Layer.{recoveredOf}
+use Rattle.layer.specs.Layer.{recoveredOf, layerOf, yearPremium}
 use Rattle.answer.specs.declared.Answer.{Answer}
 use Rattle.answer.specs.Outcome.{Outcome, refused, written, answerOf, bufferAfter}
 use Rattle.programme.specs.declared.contract.Programme.{Programme}
@@ -19,7 +19,7 @@ use Rattle.year.specs.declared.Amounts.{Amounts}
 use Rattle.year.specs.Tiers.{TierName, risk, cat, inTier}
 use Rattle.year.specs.Statement.{Statement, LayerLine, cededBy, added}
 use Rattle.year.specs.Standing.{fresh}
-use Rattle.year.specs.Run.{Left, runOf, standingAfter}
+use Rattle.year.specs.Run.{Left, runUnder, standingAfter}
 use Rattle.year.specs.Ledger.{Entry, spentBy, Ledger, Fed, eventsFed, ledgerOf}
 
 -- what is lent to a run but for the standing: the events text and the buffer
@@ -28,13 +28,13 @@ pub record Call : Type 0 where
   pub buffer : List ℕ
 
 -- what a run comes to
-abbrev pub outcomeOf : Programme → Standing → Call → Outcome Left
-outcomeOf p s c = runOf p s (c .text) (length (c .buffer))
+abbrev pub outcomeOf : (shares : List ℕ) → Programme → Standing → Call → Outcome Left
+outcomeOf shares p s c = runUnder shares p s (c .text) (length (c .buffer))
 
 -- the standing after a list of runs, each lent the standing that the one before left
-abbrev pub standingIn : Programme → Standing → List Call → Standing
-standingIn p s [] = s
-standingIn p s (c ∷ cs) = standingIn p (standingAfter (outcomeOf p s c) s) cs
+abbrev pub standingIn : (shares : List ℕ) → Programme → Standing → List Call → Standing
+standingIn shares p s [] = s
+standingIn shares p s (c ∷ cs) = standingIn shares p (standingAfter (outcomeOf shares p s c) s) cs
 
 -- a run's statement before others, where it was accepted
 abbrev pub statementBefore : Outcome Left → List Statement → List Statement
@@ -42,10 +42,10 @@ statementBefore (refused n w) ts = ts
 statementBefore (written t after) ts = after .statement ∷ ts
 
 -- the statements of the accepted runs
-abbrev pub statementsIn : Programme → Standing → List Call → List Statement
-statementsIn p s [] = []
-statementsIn p s (c ∷ cs) =
-    statementBefore (outcomeOf p s c) (statementsIn p (standingAfter (outcomeOf p s c) s) cs)
+abbrev pub statementsIn : (shares : List ℕ) → Programme → Standing → List Call → List Statement
+statementsIn shares p s [] = []
+statementsIn shares p s (c ∷ cs) =
+    statementBefore (outcomeOf shares p s c) (statementsIn shares p (standingAfter (outcomeOf shares p s c) s) cs)
 
 -- whether a run was accepted
 abbrev pub isAccepted : Outcome Left → Bool
@@ -53,23 +53,23 @@ isAccepted (refused n w) = false
 isAccepted (written t after) = true
 
 -- what the ledger is fed of the runs
-abbrev pub fedIn : Programme → Standing → List Call → List Fed
-fedIn p s [] = []
-fedIn p s (c ∷ cs) =
-    record { text = c .text; accepted = isAccepted (outcomeOf p s c) }
-    ∷ fedIn p (standingAfter (outcomeOf p s c) s) cs
+abbrev pub fedIn : (shares : List ℕ) → Programme → Standing → List Call → List Fed
+fedIn shares p s [] = []
+fedIn shares p s (c ∷ cs) =
+    record { text = c .text; accepted = isAccepted (outcomeOf shares p s c) }
+    ∷ fedIn shares p (standingAfter (outcomeOf shares p s c) s) cs
 
-module _ (p : Programme) (h : List Call) where
+module _ (shares : List ℕ) (p : Programme) (h : List Call) where
   -- the standing that a history leaves
   abbrev pub standingOfHistory : Standing
-  standingOfHistory = standingIn p fresh h
+  standingOfHistory = standingIn shares p fresh h
 
   -- "A history's events, losses and statements are those of its accepted runs."
   abbrev pub statementsOf : List Statement
-  statementsOf = statementsIn p fresh h
+  statementsOf = statementsIn shares p fresh h
 
   abbrev pub eventsOfHistory : List Event
-  eventsOfHistory = eventsFed (fedIn p fresh h)
+  eventsOfHistory = eventsFed (fedIn shares p fresh h)
 
   -- "It ends on the day of its last event, or on 0 without one."
   abbrev pub endsOn : ℕ
@@ -77,7 +77,7 @@ module _ (p : Programme) (h : List Call) where
 
   -- its ledger
   abbrev pub ledgerOfHistory : Ledger
-  ledgerOfHistory = ledgerOf p (fedIn p fresh h)
+  ledgerOfHistory = ledgerOf shares p (fedIn shares p fresh h)
 
 -- "Its gross, net, ceded and recoveries are the amounts on its statements' total lines, added"
 abbrev pub summed : List Statement → Amounts
@@ -95,14 +95,17 @@ grossIn es = grossOf (lossesIn es)
 abbrev pub cededByAll : List Treaty → List Event → ℕ
 cededByAll ts es = sumOf (cededBy es) ts
 
--- "A layer has recovered what its line in the last statement shows": for each layer of a tier
-abbrev pub shownIn : TierName → Statement → List ℕ
-shownIn n t = map (λ (l : LayerLine). l .recovered) (inTier n (t .layers))
+-- "A layer has recovered what its line in the last statement shows": for each layer of a tier; and the premium shown
+abbrev pub recoveredShown : TierName → Statement → List ℕ
+recoveredShown n t = map (λ (l : LayerLine). l .recovered) (inTier n (t .layers))
+
+abbrev pub premiumShown : TierName → Statement → List ℕ
+premiumShown n t = map (λ (l : LayerLine). l .premium) (inTier n (t .layers))
 
 -- in the last of some statements, `without` where there is none
-abbrev pub lastShown : TierName → (without : List ℕ) → List Statement → List ℕ
-lastShown n without [] = without
-lastShown n without (t ∷ ts) = lastShown n (shownIn n t) ts
+abbrev pub lastShown : (Statement → List ℕ) → (without : List ℕ) → List Statement → List ℕ
+lastShown f without [] = without
+lastShown f without (t ∷ ts) = lastShown f (f t) ts
 
 -- "the ledger's sum of its recoveries"
 abbrev pub recoveriesIn : List Entry → List ℕ
@@ -111,6 +114,14 @@ recoveriesIn es = map (λ (e : Entry). e .recoveries) es
 -- a layer's placed share, to the nearest cent, of its spent amount above the deductible, by the ledger
 abbrev pub recoveredIn : List Entry → List ℕ
 recoveredIn es = map (λ (e : Entry). recoveredOf (e .terms) (spentBy e)) es
+
+-- each layer's timed premium by the ledger
+abbrev pub timedIn : List Entry → List ℕ
+timedIn es = map (λ (e : Entry). e .timed) es
+
+-- each layer's year premium by the ledger: the timed premium, and without (time) that of the spent amount
+abbrev pub premiumsIn : List Entry → List ℕ
+premiumsIn es = map (λ (e : Entry). yearPremium (layerOf (e .terms) (spentBy e) (e .timed))) es
 
 -- "A tier's recoveries"
 abbrev pub recoveriesOfTier : TierName → Amounts → ℕ
@@ -127,14 +138,14 @@ abbrev pub replyOf : Outcome Left → List ℕ → Reply
 replyOf o d = record { answer = answerOf o; buffer = bufferAfter o d }
 
 -- how a list of runs is answered
-abbrev pub repliesIn : Programme → Standing → List Call → List Reply
-repliesIn p s [] = []
-repliesIn p s (c ∷ cs) =
-    replyOf (outcomeOf p s c) (c .buffer) ∷ repliesIn p (standingAfter (outcomeOf p s c) s) cs
+abbrev pub repliesIn : (shares : List ℕ) → Programme → Standing → List Call → List Reply
+repliesIn shares p s [] = []
+repliesIn shares p s (c ∷ cs) =
+    replyOf (outcomeOf shares p s c) (c .buffer) ∷ repliesIn shares p (standingAfter (outcomeOf shares p s c) s) cs
 
 -- how a later list of runs is answered
-abbrev pub repliesAfter : Programme → (history later : List Call) → List Reply
-repliesAfter p h cs = repliesIn p (standingOfHistory p h) cs
+abbrev pub repliesAfter : (shares : List ℕ) → Programme → (history later : List Call) → List Reply
+repliesAfter shares p h cs = repliesIn shares p (standingOfHistory shares p h) cs
 
 -- each layer's spent amount by the ledger
 abbrev pub spentIn : List Entry → List ℕ

@@ -7,6 +7,7 @@ use mathlib.Core.Bool.{true, false}
 use mathlib.Core.List.{List}
 use Prim.Native.Nat.{ℕ}
 use Rattle.answer.specs.Outcome.{Outcome, refused, written, fitted}
+use Rattle.scale.specs.Scale.{timeShares}
 use Rattle.programme.specs.declared.contract.Programme.{Programme}
 use Rattle.programme.specs.Contracts.{Contracts, contractsIn}
 use Rattle.programme.specs.Valid.{valid}
@@ -31,21 +32,26 @@ abbrev pub statementFitted : (room : ℕ) → Statement → Standing → Outcome
 statementFitted room t s = fitted room (statementText t) (record { statement = t; standing = s })
 
 -- the refusal of an events text, or its events from the standing on; without an event the last day stays
-abbrev pub runThrough : Contracts → Standing → (room : ℕ) → EventsRead → Outcome Left
-runThrough c s room (turnedDown n w) = refused n w
-runThrough c s room (events es) =
-    statementFitted room (statementOf (c .treaties) (yearOf c s) es)
-    (standingOf (yearAfter (c .treaties) (yearOf c s) es) (lastDay (s .day) es))
+abbrev pub runThrough : (shares : List ℕ) → Contracts → Standing → (room : ℕ) → EventsRead → Outcome Left
+runThrough shares c s room (turnedDown n w) = refused n w
+runThrough shares c s room (events es) =
+    statementFitted room (statementOf shares (c .treaties) (yearOf c s) es)
+    (standingOf (yearAfter shares (c .treaties) (yearOf c s) es) (lastDay (s .day) es))
 
 -- the contracts from a standing on: 8, a standing that breaks a rule; then the events text
-unfoldable pub runFrom : Contracts → Standing → (text : List ℕ) (room : ℕ) → Outcome Left
-runFrom c s text room =
+unfoldable pub runFrom : (shares : List ℕ) → Contracts → Standing → (text : List ℕ) (room : ℕ) → Outcome Left
+runFrom shares c s text room =
     elim (standingPasses c s)
-    [ true ↦ runThrough c s room (eventsOf (c .treaties) (s .day) text) | false ↦ refused 8 0 ]
+    [ true ↦ runThrough shares c s room (eventsOf (c .treaties) (s .day) text) | false ↦ refused 8 0 ]
 
--- a run: 6 first, where no table text reads to the programme
-unfoldable pub runOf : Programme → Standing → (text : List ℕ) (room : ℕ) → Outcome Left
-runOf p s text room = elim (valid p) [ true ↦ runFrom (contractsIn p) s text room | false ↦ refused 6 0 ]
+-- a run that charges by some time shares: 6 first, where no table text reads to the programme
+unfoldable pub runUnder : (shares : List ℕ) → Programme → Standing → (text : List ℕ) (room : ℕ) → Outcome Left
+runUnder shares p s text room =
+    elim (valid p) [ true ↦ runFrom shares (contractsIn p) s text room | false ↦ refused 6 0 ]
+
+-- a run: by the built-in shares
+abbrev pub runOf : Programme → Standing → (text : List ℕ) (room : ℕ) → Outcome Left
+runOf p s text room = runUnder timeShares p s text room
 
 -- the standing after it: as lent, or the new one
 abbrev pub standingAfter : Outcome Left → Standing → Standing

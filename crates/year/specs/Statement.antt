@@ -10,7 +10,7 @@ use Rattle.text.specs.Lines.{joined}
 use Rattle.treaty.specs.declared.Treaty.{Treaty}
 use Rattle.treaty.specs.Treaty.{takenBy}
 use Rattle.layer.specs.declared.record.Layer.{Layer}
-use Rattle.layer.specs.Layer.{deductibleLeftOf, coverLeftOf, recoveredOf, premiumOf}
+use Rattle.layer.specs.Layer.{deductibleLeftOf, coverLeftOf, recoveredOf, yearPremium}
 use Rattle.events.specs.Event.{Event}
 use Rattle.year.specs.declared.Amounts.{Amounts}
 use Rattle.year.specs.Tiers.{Tiers}
@@ -22,10 +22,10 @@ pub record EventLine : Type 0 where
   pub amounts : Amounts
 
 -- the lines of events from a year on
-abbrev pub eventLines : List Treaty → Year → List Event → List EventLine
-eventLines ts y [] = []
-eventLines ts y (e ∷ es) =
-    record { day = e .day; amounts = eventAmounts ts y e } ∷ eventLines ts (eventAfter ts y e) es
+abbrev pub eventLines : (shares : List ℕ) → List Treaty → Year → List Event → List EventLine
+eventLines shares ts y [] = []
+eventLines shares ts y (e ∷ es) =
+    record { day = e .day; amounts = eventAmounts shares ts y e } ∷ eventLines shares ts (eventAfter shares ts y e) es
 
 -- a treaty's line: its number and what it cedes in this run
 pub record TreatyLine : Type 0 where
@@ -53,7 +53,7 @@ layerLineOf y = record {
   deductible = deductibleLeftOf (y .terms) (y .spent .0);
   cover = coverLeftOf (y .terms) (y .spent .0);
   recovered = recoveredOf (y .terms) (y .spent .0);
-  premium = premiumOf (y .terms) (y .spent .0);
+  premium = yearPremium y;
 }
 
 -- amounts, added
@@ -79,15 +79,15 @@ pub record Statement : Type 0 where
   pub total : Amounts
 
 -- the statement of events from a year on
-abbrev pub statementOf : List Treaty → Year → List Event → Statement
-statementOf ts y es = record {
-  events = eventLines ts y es;
+abbrev pub statementOf : (shares : List ℕ) → List Treaty → Year → List Event → Statement
+statementOf shares ts y es = record {
+  events = eventLines shares ts y es;
   treaties = map (treatyLineOf es) ts;
   layers = record {
-    risk = map layerLineOf (yearAfter ts y es .risk);
-    cat = map layerLineOf (yearAfter ts y es .cat);
+    risk = map layerLineOf (yearAfter shares ts y es .risk);
+    cat = map layerLineOf (yearAfter shares ts y es .cat);
   };
-  total = totals (eventLines ts y es);
+  total = totals (eventLines shares ts y es);
 }
 
 -- the lines as document 01 prints them, capitals for numbers: an event's

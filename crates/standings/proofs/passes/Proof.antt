@@ -9,10 +9,11 @@ returns : tie.Need-returns
 returns c = search day-late
 
 tier-passes-requires : tie.Need-tier-passes-requires
-tier-passes-requires c κs = valid-tells _ (c .before .before .before .before .before .before .pre) .1
+tier-passes-requires c κs = valid-tells _ (c .before .before .before .before .before .before .before .before .pre) .1
 
 tier-passes-requires-2 : tie.Need-tier-passes-requires-2
-tier-passes-requires-2 c κs = valid-tells _ (c .before .before .before .before .before .before .before .before .pre) .2
+tier-passes-requires-2 c κs =
+    valid-tells _ (c .before .before .before .before .before .before .before .before .before .before .pre) .2
 
 returns-2 : tie.Need-returns-2
 returns-2 c = search as-cat

@@ -9,14 +9,14 @@ use Rattle.booking.proofs.book.book.Statement.{statement}
 use Rattle.booking.proofs.book.book.Tie as tie
 
 abbrev Inv-loop : tie.InvT-loop
-Inv-loop register risk cat events day risk-spent₀ cat-spent₀ cessions₀ out₀ total₀ last₀ next₀ at₀ risk-spent
-    cat-spent cessions out total last next at =
-    law.Booking register risk cat events day risk-spent₀ cat-spent₀ out₀ risk-spent cat-spent cessions out total last
-    next at
+Inv-loop shares register risk cat events day risk-held₀ cat-held₀ cessions₀ out₀ total₀ last₀ next₀ at₀ risk-held
+    cat-held cessions out total last next at =
+    law.Booking shares register risk cat events day risk-held₀ cat-held₀ out₀ risk-held cat-held cessions out total
+    last next at
 
 abbrev μ-loop : tie.MeasureT-loop
-μ-loop register risk cat events day risk-spent₀ cat-spent₀ cessions₀ out₀ total₀ last₀ next₀ at₀ risk-spent cat-spent
-    cessions out total last next at =
+μ-loop shares register risk cat events day risk-held₀ cat-held₀ cessions₀ out₀ total₀ last₀ next₀ at₀ risk-held
+    cat-held cessions out total last next at =
     length events - at
 
 -- the places of an event: after its numbers were read, and before
@@ -47,7 +47,7 @@ module _ (c : tie.After-enter Inv-loop μ-loop) where
 -- where the function starts, from before an event
 module _ (c : tie.At-loop Inv-loop μ-loop) where
   abbrev start : tie.Start Inv-loop μ-loop
-  start = c .before .before .before .before .before .before .before .before .before .before
+  start = c .before .before .before .before .before .before .before .before .before .before .before
 
 -- and where it was added to the totals and its line put
 module _ (c : tie.After-put-event Inv-loop μ-loop) where
@@ -121,7 +121,9 @@ total-with-requires c κs =
     (some enter .if1 .left) (enter .enter .ensures)
 
 put-event-requires : tie.Need-put-event-requires Inv-loop μ-loop
-put-event-requires c κs = search (law.next-small, needs)
+put-event-requires c κs =
+    let enter = c .before .before .before .before .before .before .before .before in
+    law.next-small (loop (entered enter) .loop .inv)
 
 loop-less-2 : tie.Need-loop-less-2 Inv-loop μ-loop
 loop-less-2 c =
@@ -137,7 +139,8 @@ loop-again-2 c =
     (begun e .losses-from .ensures) _ (dated e .day-at .ensures) _ (e .losses-end .ensures)
     (some enter .if1 .left) (enter .enter .ensures) (summed (c .before .before) .total-with .ensures)
     (c .before .before .put-event .ensures .0) (c .before .before .put-event .ensures .1)
-    (c .before .before .put-event .kept .0) (enter .enter .kept .1 .1 .1 .1 .0) (enter .enter .kept .1 .1 .1 .1 .1 .0)
+    (c .before .before .put-event .kept .0) (enter .enter .kept .1 .1 .1 .1 .1 .1 .0)
+    (enter .enter .kept .1 .1 .1 .1 .1 .1 .1 .0)
 
 same-length : tie.Need-same-length Inv-loop μ-loop
 same-length c = search needs

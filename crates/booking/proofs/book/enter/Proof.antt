@@ -22,8 +22,14 @@ module _ (c : tie.After-cents2) where
   abbrev ceded : tie.After-cede-each
   ceded = counted .before .before .before .before
 
+  abbrev shared : tie.After-share-on
+  shared = ceded .before .before .before
+
   abbrev start : tie.Start
-  start = ceded .before .before .before .before .before .before .before .before .before .before
+  start = shared .before .before .before .before .before .before .before .before .before
+
+share-on-requires : tie.Need-share-on-requires
+share-on-requires c κs = search needs
 
 slice-aggregate-cede-each : tie.Need-slice-aggregate-cede-each
 slice-aggregate-cede-each c = search needs
@@ -41,7 +47,7 @@ slice-aggregate-bear : tie.Need-slice-aggregate-bear
 slice-aggregate-bear c = search law.left-length
 
 bear-requires : tie.Need-bear-requires
-bear-requires c κs = search needs
+bear-requires c κs = (search needs, search law.found-fair)
 
 cents-requires : tie.Need-cents-requires
 cents-requires c κs = search needs
@@ -50,21 +56,33 @@ sub-subject : tie.Need-sub-subject
 sub-subject c = search law.ceded-le
 
 sub-subject-2 : tie.Need-sub-subject-2
-sub-subject-2 c = search law.by-risk-le
+sub-subject-2 c =
+    let by-risk = c .before .before .before .before in
+    let counted = by-risk .before .before .before in
+    let ceded = counted .before .before .before .before in
+    let shared = ceded .before .before .before in
+    let start = shared .before .before .before .before .before .before .before .before .before in
+    law.by-risk-le (start .pre) _ (ceded .cede-each .ensures .0) (ceded .cede-each .ensures .1)
+    (counted .count .ensures) (shared .share-on .ensures) (by-risk .bear .ensures .0) (c .before .cents .ensures)
 
 slice-aggregate-bear-2 : tie.Need-slice-aggregate-bear-2
 slice-aggregate-bear-2 c = search needs
 
 bear-requires-2 : tie.Need-bear-requires-2
-bear-requires-2 c κs = search needs
+bear-requires-2 c κs =
+    let counted = c .before .before .before .before .before .before .before .before .before in
+    let shared = counted .before .before .before .before .before .before .before in
+    let start = shared .before .before .before .before .before .before .before .before .before in
+    (start .pre .lent .cat, law.found-fair (start .pre) _ (shared .share-on .ensures))
 
 cents-requires-2 : tie.Need-cents-requires-2
 cents-requires-2 c κs = search needs
 
 sub-net : tie.Need-sub-net
 sub-net c =
-    law.by-cat-le (start c .pre) (ceded c .cede-each .ensures .0) (ceded c .cede-each .ensures .1)
-    (counted c .count .ensures) (by-risk c .bear .ensures .0) (recovered c .cents .ensures)
+    law.by-cat-le (start c .pre) _ (ceded c .cede-each .ensures .0) (ceded c .cede-each .ensures .1)
+    (counted c .count .ensures) (shared c .share-on .ensures) (by-risk c .bear .ensures .0)
+    (recovered c .cents .ensures)
     (by-cat c .bear2 .ensures .0) (c .cents2 .ensures)
 
 cents-requires-3 : tie.Need-cents-requires-3
@@ -76,8 +94,9 @@ cents-requires-4 c κs = search needs
 add-premium : tie.Need-add-premium
 add-premium c =
     let d = c .before .before in
-    law.premium-fits (start d .pre) (ceded d .cede-each .ensures .0) (ceded d .cede-each .ensures .1)
-    (counted d .count .ensures) (by-risk d .bear .ensures .0) (recovered d .cents .ensures)
+    law.premium-fits (start d .pre) _ (ceded d .cede-each .ensures .0) (ceded d .cede-each .ensures .1)
+    (counted d .count .ensures) (shared d .share-on .ensures) (by-risk d .bear .ensures .0)
+    (recovered d .cents .ensures)
     (by-cat d .bear2 .ensures .0) (d .cents2 .ensures) (c .before .cents3 .ensures) (c .cents4 .ensures)
 
 same-length : tie.Need-same-length
@@ -92,8 +111,9 @@ same-length-3 c = search needs
 returns : tie.Need-returns
 returns c =
     let d = c .before .before in
-    law.as-entered (start d .pre) (ceded d .cede-each .ensures .0) (ceded d .cede-each .ensures .1)
-    (counted d .count .ensures) (by-risk d .bear .ensures .0) (recovered d .cents .ensures)
+    law.as-entered (start d .pre) _ (ceded d .cede-each .ensures .0) (ceded d .cede-each .ensures .1)
+    (counted d .count .ensures) (shared d .share-on .ensures) (by-risk d .bear .ensures .0)
+    (recovered d .cents .ensures)
     (by-cat d .bear2 .ensures .0) (d .cents2 .ensures) (c .before .cents3 .ensures) (c .cents4 .ensures)
     (by-risk d .bear .ensures .1) (by-cat d .bear2 .ensures .1)
 
@@ -101,6 +121,7 @@ pub enter-spec : {M : Type 1} → statement M
 enter-spec =
     tie.close
     (tie.spec
+    share-on-requires
     slice-aggregate-cede-each
     cede-each-requires
     count-requires

@@ -16,16 +16,16 @@ use Rattle.engine.proofs.run.+placed.{statement}
 use Rattle.engine.proofs.run.+placed.Tie.{close}
 
 -- the buffer's length
-abbrev μ-placed : Measures 5 kinds.ps ℕ
-μ-placed κs a = length (a .1 .1 .1 .1 .1 .0 .now)
+abbrev μ-placed : Measures 6 kinds.ps ℕ
+μ-placed κs a = length (a .1 .1 .1 .1 .1 .1 .0 .now)
 
 module _ (t : ℕ) where
   -- a call with a buffer of t bytes, and of fewer
-  abbrev at : In 5 kinds.ps
-  at = and 5 kinds.ps (is 5 kinds.ps μ-placed t) placed.Pre
+  abbrev at : In 6 kinds.ps
+  at = and 6 kinds.ps (is 6 kinds.ps μ-placed t) placed.Pre
 
-  abbrev below : In 5 kinds.ps
-  below = and 5 kinds.ps (falls 5 kinds.ps _<_ μ-placed t) placed.Pre
+  abbrev below : In 6 kinds.ps
+  below = and 6 kinds.ps (falls 6 kinds.ps _<_ μ-placed t) placed.Pre
 
   -- what the functions that it calls ask and promise
   abbrev claims : lts.Claims

@@ -10,7 +10,7 @@ use Rattle.engine.proofs.run.through.Tie as tie
 -- the places where the function starts, where the lines were read, and where none was at fault
 module _ (c : tie.After-read) where
   abbrev start : tie.Start
-  start = c .before .before .before .before .before .before .before .before
+  start = c .before .before .before .before .before .before .before .before .before
 
 module _ (c : tie.Else1) where
   abbrev found : tie.After-read

@@ -18,8 +18,8 @@ returns : tie.Need-returns
 returns c es q =
     let stated = c .before .before .before .before in
     let fits = stated .before .before in
-    let start = fits .before .before .before .before .before .before in
-    law.at-once _ _ _ _ _ (stated .state .ensures es q) (start .pre .1 .enough es q) (fits .if1 .taken) _
+    let start = fits .before .before .before .before .before .before .before in
+    law.at-once _ _ _ _ _ _ (stated .state .ensures es q) (start .pre .1 .enough es q) (fits .if1 .taken) _
     (c .written .ensures)
 
 write-measured-requires : tie.Need-write-measured-requires

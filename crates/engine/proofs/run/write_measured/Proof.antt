@@ -11,11 +11,11 @@ use Rattle.engine.proofs.run.write_measured.Tie as tie
 -- where the statement was measured: the place where the function starts, and the buffer, of which no byte was lent
 module _ (c : tie.After-state) where
   abbrev start : tie.Start
-  start = c .before .before .before .before .before .before .before
+  start = c .before .before .before .before .before .before .before .before
 
-  lent-back : c .state .last .1 .1 .1 .1 .1 .0 ++ start .args .buffer .now ≡ start .args .buffer .now
+  lent-back : c .state .last .1 .1 .1 .1 .1 .1 .0 ++ start .args .buffer .now ≡ start .args .buffer .now
   lent-back =
-      no-bytes (c .state .last .1 .1 .1 .1 .1 .0) (start .args .buffer .now) (c .state .kept .1 .1 .1 .1 .1 .0)
+      no-bytes (c .state .last .1 .1 .1 .1 .1 .1 .0) (start .args .buffer .now) (c .state .kept .1 .1 .1 .1 .1 .1 .0)
 
 slice-relend-prefix-state : tie.Need-slice-relend-prefix-state
 slice-relend-prefix-state c = search needs
@@ -35,7 +35,7 @@ same-length c = search needs
 returns : tie.Need-returns
 returns c es q =
     let measured = c .before .before .before .before .before in
-    law.not-written _ _ _ _ _ (measured .state .ensures es q) (lent-back measured)
+    law.not-written _ _ _ _ _ _ (measured .state .ensures es q) (lent-back measured)
     (c .before .if1 .taken) _ (c .refused .ensures)
 
 state-requires-2 : tie.Need-state-requires-2
@@ -52,7 +52,7 @@ returns-2 c es q =
     let written = c .before .before .before in
     let fits = written .before .before in
     let measured = fits .before .before .before .before in
-    law.written _ _ _ _ _ (measured .state .ensures es q) (lent-back measured)
+    law.written _ _ _ _ _ _ (measured .state .ensures es q) (lent-back measured)
     (fits .if1 .left) (written .state2 .ensures es q) _ (c .written .ensures)
 
 pub write-measured-spec : {M : Type 1} → statement M

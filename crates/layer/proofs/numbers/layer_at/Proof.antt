@@ -35,6 +35,18 @@ shared-slice-read-new c = search needs
 new-requires : tie.Need-new-requires
 new-requires c κs = search needs
 
+add-of-standing : tie.Need-add-of-standing
+add-of-standing c = search needs
+
+mul-of-standing : tie.Need-mul-of-standing
+mul-of-standing c = search needs
+
+shared-slice-read-of-standing : tie.Need-shared-slice-read-of-standing
+shared-slice-read-of-standing c = search needs
+
+of-standing-requires : tie.Need-of-standing-requires
+of-standing-requires c κs = search needs
+
 returns : tie.Need-returns
 returns c = search law.record-at
 
@@ -52,4 +64,8 @@ layer-at-spec =
     mul-new
     shared-slice-read-new
     new-requires
+    add-of-standing
+    mul-of-standing
+    shared-slice-read-of-standing
+    of-standing-requires
     returns)

@@ -23,6 +23,9 @@ shared-slice-read-t11 c = search needs
 shared-slice-read-t13 : tie.Need-shared-slice-read-t13
 shared-slice-read-t13 c = search needs
 
+shared-slice-read-t16 : tie.Need-shared-slice-read-t16
+shared-slice-read-t16 c = search needs
+
 rates-of-requires : tie.Need-rates-of-requires
 rates-of-requires c κs = search needs
 
@@ -40,4 +43,5 @@ terms-of-spec =
     shared-slice-read-t11
     shared-slice-read-t13
     rates-of-requires
+    shared-slice-read-t16
     returns)

@@ -59,11 +59,11 @@ stayed = (
 
 -- the bytes of a layer's record
 abbrev width : ℕ
-width = 216
+width = 232
 
 -- what is read past the end of a list
 abbrev none : Layer
-none = layerOf (termsOf 0 0 0 0 0 [] 0) 0
+none = layerOf (termsOf 0 0 0 0 0 [] 0 0) 0 0
 
 -- the machine values of a layer
 abbrev layer-vals : Layer → List Val
@@ -127,7 +127,7 @@ module _ {M : Type 1} (𝓤 : URA M) (H : Heap 𝓤) (A : Atoms 𝓤) (W : Given
 
   -- the layers at the end
   abbrev after : List Layer
-  after = layersThrough (e .now) ys
+  after = layersThrough (s .share) (e .now) ys
 
   -- the token of the amounts' lifetime, and what a shared slice of them owns
   abbrev token : Item 𝓤

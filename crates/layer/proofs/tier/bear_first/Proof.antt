@@ -133,7 +133,7 @@ module _ {M : Type 1} (𝓤 : URA M) (H : Heap 𝓤) (A : Atoms 𝓤) (W : Given
       ∙ g .1 .0 .1
 
   room : Room L.the-row (length used)
-  room = let c = count in (omega arith, (let h : length used * 216 < 2 ^ 63 = omega arith in h))
+  room = let c = count in (omega arith, (let h : length used * 232 < 2 ^ 63 = omega arith in h))
 
   abbrev Arg : Type 0
   Arg = List Layer × (ℕ × (RefT (List ℕ) × (Sums × Unit {0})))
@@ -199,7 +199,7 @@ module _ {M : Type 1} (𝓤 : URA M) (H : Heap 𝓤) (A : Atoms 𝓤) (W : Given
 
   -- what the contract of the call says
   abbrev Said : List Layer → Sums → Type 0
-  Said zs t = (t ≡ sumsThrough (e .now) s used) × (zs ≡ layersThrough (e .now) used)
+  Said zs t = (t ≡ sumsThrough (e .now) s used) × (zs ≡ layersThrough (s .share) (e .now) used)
 
   exits : (zs : List Layer) (t : Sums) → Said zs t → IsArray (zs ++ rest) → Is Z.the-row t (sums-vals t)
       → ent 𝓤 (⋆ 𝓤 H A (token ∷ [])) (Post (borne-val (zs ++ rest) n t))

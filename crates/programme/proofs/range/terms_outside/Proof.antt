@@ -44,6 +44,12 @@ rates-outside-requires c κs = search needs
 add-result-6 : tie.Need-add-result-6
 add-result-6 c = search needs
 
+outside-requires-7 : tie.Need-outside-requires-7
+outside-requires-7 c κs = search needs
+
+add-result-7 : tie.Need-add-result-7
+add-result-7 c = search needs
+
 returns : tie.Need-returns
 unfolding termsOutside
 returns c = search needs
@@ -65,4 +71,6 @@ terms-outside-spec =
     add-result-5
     rates-outside-requires
     add-result-6
+    outside-requires-7
+    add-result-7
     returns)

@@ -1,19 +1,21 @@
 -- `standings::test::within_caps` meets its contract.
 -- Assumes nothing.
+use mathlib.Core.List.{[]}
 use Prim.Native.Nat.{_-_}
 use borrow.Author.Needs.{needs}
+use Rattle.year.specs.Standing.{withinCap}
 use Rattle.standings.proofs.Tests as law
 use Rattle.standings.proofs.test.within_caps.Statement.{statement}
 use Rattle.standings.proofs.test.within_caps.Tie as tie
 
 abbrev Inv-loop : tie.InvT-loop
-Inv-loop layers spent count i₀ i = law.Capped count (layers .places) spent i
+Inv-loop layers spent count i₀ i = law.Within withinCap count (layers .places) spent [] i
 
 abbrev μ-loop : tie.MeasureT-loop
 μ-loop layers spent count i₀ i = count - i
 
 loop-holds : tie.Need-loop-holds Inv-loop μ-loop
-loop-holds c = search law.caps-begin
+loop-holds c = law.within-begins _ _ _ _ (c .pre)
 
 mul-terms : tie.Need-mul-terms Inv-loop μ-loop
 mul-terms c = search needs
@@ -34,7 +36,7 @@ array-read-if1 : tie.Need-array-read-if1 Inv-loop μ-loop
 array-read-if1 c = search needs
 
 returns : tie.Need-returns Inv-loop μ-loop
-returns c = search law.caps-stop
+returns c = search law.cap-stops
 
 add-i : tie.Need-add-i Inv-loop μ-loop
 add-i c = search needs
@@ -46,11 +48,11 @@ loop-again : tie.Need-loop-again Inv-loop μ-loop
 loop-again c =
     let cents = c .before in
     let turn = cents .before .before .before in
-    law.caps-next (turn .before .loop .inv) _ (turn .loop-test .taken) _ (cents .before .cap .ensures) _
+    law.cap-next (turn .before .loop .inv) _ (turn .loop-test .taken) _ (cents .before .cap .ensures) _
     (cents .cents .ensures) (c .if1 .left)
 
 returns-2 : tie.Need-returns-2 Inv-loop μ-loop
-returns-2 c = search law.caps-end
+returns-2 c = search law.within-ends
 
 pub within-caps-spec : {M : Type 1} → statement M
 within-caps-spec =

@@ -1,5 +1,6 @@
 -- `standings::tier::bear` meets its contract.
 -- Assumes nothing.
+use mathlib.Core.Path.{refl}
 use native.Mathlib.Omega.{arith}
 use borrow.Author.Needs.{needs}
 use Rattle.layer.proofs.TierPass.{none-ample}
@@ -20,7 +21,8 @@ reached-requires : tie.Need-reached-requires
 reached-requires c κs = search needs
 
 exhausted-requires : tie.Need-exhausted-requires
-exhausted-requires c κs = (search law.reached-inside, search law.reached-places, search law.bears-sound)
+exhausted-requires c κs =
+    (search law.reached-inside, search law.reached-few, search needs, search law.bears-sound)
 
 same-length : tie.Need-same-length
 same-length c = search needs
@@ -32,13 +34,16 @@ sub-count : tie.Need-sub-count
 sub-count c = search law.exhausted-inside
 
 records-requires : tie.Need-records-requires
-records-requires c κs = (search law.moved-few, search law.moved-inside, search law.moved-places)
+records-requires c κs = (search law.moved-places, search law.moved-inside, search needs)
 
 bear-first-requires : tie.Need-bear-first-requires
 bear-first-requires c κs = (search law.moved-few, search law.records-sound, search none-ample)
 
 store-requires : tie.Need-store-requires
-store-requires c κs = (search law.moved-places, search law.moved-few)
+store-requires c κs =
+    let layers = c .before .before .before .before .before .before .before .before in
+    let start = layers .before .before .before .before .before .before .before .before in
+    (start .pre .0 .places, search law.moved-places)
 
 same-length-2 : tie.Need-same-length-2
 same-length-2 c = search needs
@@ -53,9 +58,10 @@ returns-2 c =
     let loaded = c .before .before .before .before .before .before .before .before .records .ensures in
     let borne = c .before .before .before .before .before .before .before .bear-first .ensures in
     let empty = begun .before .before .before .before in (
-      law.sums-borne (start .pre) xs _ _ most reach _ (begun .exhausted .ensures) _ loaded _
+      law.sums-borne (start .pre .0) _ (start .pre .1) xs _ _ most reach _ (begun .exhausted .ensures) _ loaded _ refl
           (empty .before .none .ensures) (empty .none2 .ensures) _ (borne .1),
-      law.places-borne (start .pre) xs _ _ most reach _ (begun .exhausted .ensures) _ loaded _ (borne .0) _
+      law.places-borne (start .pre .0) _ (start .pre .1) xs _ _ most reach _ (begun .exhausted .ensures) _ loaded _
+          (borne .0) _
           (c .before .before .before .store .ensures),
     )
 

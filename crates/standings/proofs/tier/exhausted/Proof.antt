@@ -9,10 +9,10 @@ use Rattle.standings.proofs.tier.exhausted.Statement.{statement}
 use Rattle.standings.proofs.tier.exhausted.Tie as tie
 
 abbrev Inv-loop : tie.InvT-loop
-Inv-loop terms spent count i₀ i = law.Exhausting count (tierFrom terms) spent i
+Inv-loop terms held count i₀ i = law.Exhausting count (tierFrom terms) held i
 
 abbrev μ-loop : tie.MeasureT-loop
-μ-loop terms spent count i₀ i = count - i
+μ-loop terms held count i₀ i = count - i
 
 loop-holds : tie.Need-loop-holds Inv-loop μ-loop
 loop-holds c = search law.none-exhausted

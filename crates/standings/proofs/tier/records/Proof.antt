@@ -9,10 +9,10 @@ use Rattle.standings.proofs.tier.records.Statement.{statement}
 use Rattle.standings.proofs.tier.records.Tie as tie
 
 abbrev Inv-loop : tie.InvT-loop
-Inv-loop terms spent from count layers₀ i₀ layers i = law.Loading from count (tierFrom terms) spent layers i
+Inv-loop terms held from count layers₀ i₀ layers i = law.Loading from count (tierFrom terms) held layers i
 
 abbrev μ-loop : tie.MeasureT-loop
-μ-loop terms spent from count layers₀ i₀ layers i = count - i
+μ-loop terms held from count layers₀ i₀ layers i = count - i
 
 no-terms-requires : tie.Need-no-terms-requires Inv-loop μ-loop
 no-terms-requires c κs = search needs
@@ -20,9 +20,12 @@ no-terms-requires c κs = search needs
 new-requires : tie.Need-new-requires Inv-loop μ-loop
 new-requires c κs = search needs
 
+none-requires : tie.Need-none-requires Inv-loop μ-loop
+none-requires c κs = search needs
+
 loop-holds : tie.Need-loop-holds Inv-loop μ-loop
 loop-holds c =
-    let pre = c .before .before .before .before .pre in
+    let pre = c .before .before .before .before .before .pre in
     law.load-begins _ _ _ _ _ (pre .0) (pre .1) refl
 
 add-layer-at : tie.Need-add-layer-at Inv-loop μ-loop
@@ -57,6 +60,7 @@ records-spec =
     μ-loop
     no-terms-requires
     new-requires
+    none-requires
     loop-holds
     add-layer-at
     layer-at-requires

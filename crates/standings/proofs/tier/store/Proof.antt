@@ -1,68 +1,62 @@
 -- `standings::tier::store` meets its contract.
 -- Assumes nothing.
-use Prim.Native.Nat.{_-_}
+use mathlib.Core.Path.{_≡_, sym}
+use native.Mathlib.Omega.{arith}
 use borrow.Author.Needs.{needs}
-use Rattle.standings.proofs.Stores as law
+use lib.ListN.{length, take}
+use lib.Seq.{length-take-le}
+use Rattle.standings.proofs.Stores.{both-stored}
 use Rattle.standings.proofs.tier.store.Statement.{statement}
 use Rattle.standings.proofs.tier.store.Tie as tie
 
-abbrev Inv-loop : tie.InvT-loop
-Inv-loop spent₀ from count layers i₀ spent i = law.Storing from count layers spent₀ spent i
+-- the first half is of eight numbers
+half : (c : tie.After-store-spent-arg) → length (take 8 (c .before .before .args .held .now)) ≡ 8
+half c = length-take-le 8 (c .before .before .args .held .now) (omega (arith, c .before .before .pre .0))
 
-abbrev μ-loop : tie.MeasureT-loop
-μ-loop spent₀ from count layers i₀ spent i = count - i
+slice-relend-prefix-store-spent : tie.Need-slice-relend-prefix-store-spent
+slice-relend-prefix-store-spent c = search needs
 
-loop-holds : tie.Need-loop-holds Inv-loop μ-loop
-loop-holds c = law.store-begins _ _ _ _ (search needs) (c .before .pre .0)
+slice-aggregate-store-spent : tie.Need-slice-aggregate-store-spent
+slice-aggregate-store-spent c = sym (half c)
 
-mul-layer : tie.Need-mul-layer Inv-loop μ-loop
-mul-layer c = search needs
+store-spent-requires : tie.Need-store-spent-requires
+store-spent-requires c κs =
+    let inside = c .before .before .pre .1 in
+    (omega (arith, half c), omega (arith, inside))
 
-array-copy-out-layer : tie.Need-array-copy-out-layer Inv-loop μ-loop
-array-copy-out-layer c = search needs
+sub-store-timed : tie.Need-sub-store-timed
+sub-store-timed c = search needs
 
-cents-requires : tie.Need-cents-requires Inv-loop μ-loop
-cents-requires c κs = search needs
+part-store-timed-start : tie.Need-part-store-timed-start
+part-store-timed-start c = search needs
 
-add-spent : tie.Need-add-spent Inv-loop μ-loop
-add-spent c = search needs
+part-store-timed-end : tie.Need-part-store-timed-end
+part-store-timed-end c = search needs
 
-mul-spent : tie.Need-mul-spent Inv-loop μ-loop
-mul-spent c = search needs
+store-timed-requires : tie.Need-store-timed-requires
+store-timed-requires c κs = search needs
 
-slice-write-spent : tie.Need-slice-write-spent Inv-loop μ-loop
-slice-write-spent c = search needs
-
-add-i : tie.Need-add-i Inv-loop μ-loop
-add-i c = search needs
-
-loop-less : tie.Need-loop-less Inv-loop μ-loop
-loop-less c = search needs
-
-loop-again : tie.Need-loop-again Inv-loop μ-loop
-loop-again c = search law.store-next
-
-same-length : tie.Need-same-length Inv-loop μ-loop
+same-length : tie.Need-same-length
 same-length c = search needs
 
-returns : tie.Need-returns Inv-loop μ-loop
-returns c = search law.store-ends
+returns : tie.Need-returns
+returns c =
+    let first = c .before .before .before .before .before .before in
+    let start = first .before .before .before in
+    both-stored (start .args .from) (start .args .count) (start .args .layers) (start .args .held .now) (start .pre .0)
+    (start .pre .1) (omega (arith, start .pre .1)) _ (first .store-spent .ensures) _
+    (c .before .before .store-timed .ensures)
 
 pub store-spec : {M : Type 1} → statement M
 store-spec =
     tie.close
     (tie.spec
-    Inv-loop
-    μ-loop
-    loop-holds
-    mul-layer
-    array-copy-out-layer
-    cents-requires
-    add-spent
-    mul-spent
-    slice-write-spent
-    add-i
-    loop-less
-    loop-again
+    slice-relend-prefix-store-spent
+    slice-aggregate-store-spent
+    store-spent-requires
+    sub-store-timed
+    part-store-timed-start
+    part-store-timed-end
+    store-timed-requires
     same-length
     returns)

@@ -10,11 +10,11 @@ use Rattle.statement.proofs.lines.put_layers.Statement.{statement}
 use Rattle.statement.proofs.lines.put_layers.Tie as tie
 
 abbrev Inv-loop : tie.InvT-loop
-Inv-loop out₀ at kind terms spent count next₀ i₀ out next i =
-    law.LayersPut (templateOf kind) (tierFrom terms) spent count out₀ at out next i
+Inv-loop out₀ at kind terms held count next₀ i₀ out next i =
+    law.LayersPut (templateOf kind) (tierFrom terms) held count out₀ at out next i
 
 abbrev μ-loop : tie.MeasureT-loop
-μ-loop out₀ at kind terms spent count next₀ i₀ out next i = count - i
+μ-loop out₀ at kind terms held count next₀ i₀ out next i = count - i
 
 count-requires : tie.Need-count-requires Inv-loop μ-loop
 count-requires c κs = search needs

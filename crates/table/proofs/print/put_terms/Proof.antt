@@ -16,28 +16,32 @@ put-requires c κs = search needs
 put-rates-requires : tie.Need-put-rates-requires
 put-rates-requires c κs = search needs
 
-slice-aggregate-put-line : tie.Need-slice-aggregate-put-line
-slice-aggregate-put-line c = search needs
+slice-aggregate-put-2 : tie.Need-slice-aggregate-put-2
+slice-aggregate-put-2 c = search needs
 
-slice-aggregate-put-line-2 : tie.Need-slice-aggregate-put-line-2
-slice-aggregate-put-line-2 c = search needs
+slice-aggregate-put-3 : tie.Need-slice-aggregate-put-3
+slice-aggregate-put-3 c = search needs
 
-put-line-requires : tie.Need-put-line-requires
+put-requires-2 : tie.Need-put-requires-2
 unfolding capital holes
-put-line-requires c κs = search needs
+put-requires-2 c κs = search needs
+
+put-tail-requires : tie.Need-put-tail-requires
+put-tail-requires c κs = search needs
 
 same-length : tie.Need-same-length
 same-length c = search needs
 
 returns : tie.Need-returns
 returns c =
-    let third = c .before .before in
+    let fourth = c .before .before in
+    let third = fourth .before .before .before .before in
     let second = third .before .before .before .before .before .before in
     let first = second .before .before .before .before .before in
     let s = first .before .before .before .before .before in
     let long = unmapped _ (s .args .l .rates) (s .good .1 .1 .1 .0 .1 .1 .1 .1 .1 .1 .1 .1 .0 .1 .0 .1) in (
       law.terms-put _ (s .args .l) (s .pre .1) (s .pre .3) long (first .put .ensures .0)
-          (second .put-rates .ensures .0) (third .put-line .ensures .0),
+          (second .put-rates .ensures .0) (third .put2 .ensures .0) (fourth .put-tail .ensures .0),
       search needs,
     )
 
@@ -48,8 +52,9 @@ put-terms-spec =
     slice-aggregate-put
     put-requires
     put-rates-requires
-    slice-aggregate-put-line
-    slice-aggregate-put-line-2
-    put-line-requires
+    slice-aggregate-put-2
+    slice-aggregate-put-3
+    put-requires-2
+    put-tail-requires
     same-length
     returns)

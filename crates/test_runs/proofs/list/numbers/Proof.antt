@@ -6,10 +6,10 @@ use Rattle.test_runs.proofs.list.numbers.Statement.{statement}
 use Rattle.test_runs.proofs.list.numbers.Tie as tie
 
 abbrev Inv-loop : tie.InvT-loop
-Inv-loop field values₀ at₀ k₀ values at k = k ≤ 17
+Inv-loop field values₀ at₀ k₀ values at k = k ≤ 33
 
 abbrev μ-loop : tie.MeasureT-loop
-μ-loop field values₀ at₀ k₀ values at k = 17 - k
+μ-loop field values₀ at₀ k₀ values at k = 33 - k
 
 loop-holds : tie.Need-loop-holds Inv-loop μ-loop
 loop-holds c = search needs

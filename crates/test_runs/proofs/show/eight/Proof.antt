@@ -6,10 +6,10 @@ use Rattle.test_runs.proofs.show.eight.Statement.{statement}
 use Rattle.test_runs.proofs.show.eight.Tie as tie
 
 abbrev Inv-loop : tie.InvT-loop
-Inv-loop spent i₀ i = i ≤ 8
+Inv-loop numbers i₀ i = i ≤ 8
 
 abbrev μ-loop : tie.MeasureT-loop
-μ-loop spent i₀ i = 8 - i
+μ-loop numbers i₀ i = 8 - i
 
 loop-holds : tie.Need-loop-holds Inv-loop μ-loop
 loop-holds c = search needs
