@@ -13,9 +13,10 @@ pub struct Case {
 // A case's name, and the case, drawn when it is asked for.
 type Named = (&'static str, fn() -> Case);
 
-pub const CASES: [Named; 15] = [
+pub const CASES: [Named; 16] = [
     ("full", || Case::new(full_table(), [full_text(MIXED)])),
     ("two-rates", || Case::new(two_rates_table(), [full_text(MIXED)])),
+    ("timed", || Case::new(timed_table(), [full_text(MIXED)])),
     ("unreached", || Case::new(unreached_table(), [full_text(MIXED)])),
     ("open", || Case::new(open_table(), [full_text(MIXED)])),
     ("quota", || Case::new(quota_table(0, 0), [full_text(CEDED)])),
@@ -110,6 +111,15 @@ fn two_rates_table() -> String {
     treaties(40_000_000, 900_000_000, 10_000_000)
         + &stacked("risk", 8, 2_000_000, 5_000_000, 5_000_000, back)
         + &stacked("cat", 8, 50_000_000, 150_000_000, 150_000_000, back)
+}
+
+// The full table, every layer of it with premium by amount and time.
+fn timed_table() -> String {
+    let timed = |line: &str| match line.strip_suffix(')') {
+        Some(terms) if line.contains("(placed ") => format!("{terms} (time))\n"),
+        _ => format!("{line}\n"),
+    };
+    full_table().lines().map(timed).collect()
 }
 
 // Attachments above every loss, and above every event.

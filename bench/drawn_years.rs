@@ -8,7 +8,8 @@ const SEED: u64 = 20_261_116;
 const YEARS: usize = 1_000;
 const SCALES: [u64; 6] = [100, 10_000, 1_000_000, 1_000_000_000, 1_000_000_000_000, draw::LARGEST_AMOUNT];
 
-// In how many of the runs compared something was above 0, a layer came to its cap, or began partly spent.
+// In how many of the runs compared something was above 0, a layer came to its cap, began partly spent, or was charged
+// by time.
 #[derive(Default)]
 struct Reached {
     runs: usize,
@@ -19,6 +20,7 @@ struct Reached {
     caps: usize,
     second_runs: usize,
     partly_spent: usize,
+    timed: usize,
 }
 
 impl Reached {
@@ -44,6 +46,7 @@ impl Reached {
             ("a layer at its cap", self.caps),
             ("second runs", self.second_runs),
             ("layers partly spent before them", self.partly_spent),
+            ("layers charged by time", self.timed),
         ];
         for (name, count) in named {
             assert!(count > 0, "no random year reached: {name}");
@@ -74,9 +77,10 @@ fn compare_year(random: &mut Random, rooms: &mut Rooms, reached: &mut Reached) {
         let (count, pause) = (random.pick(&[0, 1, 2, 3, 5, 8, 13, 21]), random.between(0, 40));
         let first_day = (year.engine.day + pause).clamp(1, 366);
         let events = draw::events(random, scale, &table, count, first_day).concat();
-        let begins_partly_spent = sides.has_partly_spent(&year);
+        let (begins_partly_spent, timed) = (sides.has_partly_spent(&year), year.timed());
         let statement = sides.compare(&mut year, &events, rooms);
         reached.count(statement, run > 1, begins_partly_spent);
+        reached.timed += usize::from(year.timed() > timed);
     }
 }
 

@@ -31,9 +31,14 @@ impl Rooms {
 }
 
 impl Year {
+    // The timed premiums of all layers.
+    pub fn timed(&self) -> u64 {
+        self.engine.risk_timed.iter().chain(&self.engine.cat_timed).sum()
+    }
+
     fn is_same(&self) -> bool {
-        let yardstick::Standing { risk, cat, day } = self.yardstick;
-        self.engine == raw::Standing { risk, cat, day }
+        let yardstick::Standing { risk, cat, day, risk_timed, cat_timed } = self.yardstick;
+        self.engine == raw::Standing { risk, cat, day, risk_timed, cat_timed }
     }
 }
 

@@ -66,7 +66,9 @@ impl Cursor<'_> {
             }
         }
         terms.placed = self.item(") (placed ")?;
-        self.end("))")?;
+        self.word(")")?;
+        terms.time = u64::from(self.word(" (time)").is_some());
+        self.end(")")?;
         Some(terms)
     }
 }
@@ -117,6 +119,7 @@ fn terms_in_range(l: &Terms) -> bool {
         && l.premium <= MONEY / 10
         && l.placed <= 10_000
         && l.rates.iter().all(|rate| *rate <= 20_000)
+        && l.time <= 1
 }
 
 // Puts a layer into its tier, or gives the fault.
@@ -221,7 +224,8 @@ fn plain_text(p: &Programme) -> String {
             for rate in &l.rates[..l.reinstatements as usize] {
                 let _ = write!(s, " {rate}");
             }
-            let _ = writeln!(s, ") (placed {}))", l.placed);
+            let time = if l.time == 1 { " (time)" } else { "" };
+            let _ = writeln!(s, ") (placed {}){time})", l.placed);
         }
     }
     s
@@ -253,6 +257,7 @@ impl Random {
             l.rates[..l.reinstatements as usize].fill_with(|| self.between(0, 20_000));
             l.premium = self.between(0, MONEY / 10);
             l.placed = self.between(0, 10_000);
+            l.time = self.between(0, 1);
             end = l.attachment + l.limit;
         }
         tier
@@ -284,7 +289,7 @@ impl Random {
         let at = self.between(0, 7) as usize;
         let number = [0, 1, 2, 9, 101, 10_001, 20_001, MONEY, MONEY + 1, u64::MAX / 2][self.between(0, 9) as usize];
         let layer = if self.next() % 2 == 0 { &mut p.risk.places[at] } else { &mut p.cat.places[at] };
-        match self.between(0, 11) {
+        match self.between(0, 12) {
             0 => p.treaties.places[at].kind = number,
             1 => p.treaties.places[at].number = number,
             2 => p.treaties.places[at].cede = number,
@@ -296,6 +301,7 @@ impl Random {
             8 => p.risk.count = self.between(0, 9) as usize,
             9 => layer.reinstatements = number,
             10 => layer.rates[self.between(0, 19) as usize] = number,
+            11 => layer.time = number,
             _ => p.cat.count = self.between(0, 9) as usize,
         }
         p

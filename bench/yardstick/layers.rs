@@ -14,6 +14,7 @@ pub struct Layer {
     premium: u64,
     divisor: u64,
     placed: u64,
+    is_timed: bool,
     slices: [Slice; MOST_SLICES],
 }
 
@@ -54,6 +55,7 @@ impl Layer {
             premium: layer.premium,
             divisor: WHOLE * layer.limit,
             placed: layer.placed,
+            is_timed: layer.is_timed,
             slices: slices(layer),
         }
     }
@@ -69,11 +71,12 @@ impl Layer {
         Paid { recovered, premium: part(rated, self.premium, self.divisor) }
     }
 
-    fn figures(&self, account: &Account) -> Figures {
+    fn figures(&self, account: &Account, timed: u64) -> Figures {
+        let premium = if self.is_timed { timed } else { account.paid.premium };
         Figures {
             deductible: self.deductible.saturating_sub(account.spent),
             cover: self.cap - account.spent.max(self.deductible),
-            paid: account.paid,
+            paid: Paid { premium, ..account.paid },
         }
     }
 }
@@ -89,7 +92,8 @@ fn slices(layer: &table::Layer) -> [Slice; MOST_SLICES] {
     slices
 }
 
-/// A layer in a run: the losses of the event under way are added to `sum`, and all else is of the events before it.
+/// A layer in a run: the losses of the event under way are added to `sum`, and all else is of the events before it. A
+/// layer with `(time)` is settled with each loss.
 #[derive(Clone, Copy, Default)]
 struct Account {
     sum: u64,
@@ -97,19 +101,32 @@ struct Account {
     paid: Paid,
 }
 
-/// The layers of one tier in a run.
+impl Account {
+    /// Settles what was brought; gives what it recovers and, by amount, what it is charged.
+    fn settle(&mut self, layer: &Layer) -> Paid {
+        let paid = layer.paid(self.sum);
+        let (recovered, premium) = (paid.recovered - self.paid.recovered, paid.premium - self.paid.premium);
+        (self.spent, self.paid) = (self.sum, paid);
+        Paid { recovered, premium }
+    }
+}
+
+/// The layers of one tier in a run, the year's premiums of those with `(time)`, and what these recover and charge in
+/// the event under way.
 pub struct Tier<'a> {
     layers: &'a [Layer],
     accounts: [Account; MOST_LAYERS],
+    timed: [u64; MOST_LAYERS],
+    paid: Paid,
 }
 
 impl<'a> Tier<'a> {
-    pub fn new(layers: &'a [Layer], spent: &[u64; MOST_LAYERS]) -> Tier<'a> {
+    pub fn new(layers: &'a [Layer], spent: &[u64; MOST_LAYERS], timed: &[u64; MOST_LAYERS]) -> Tier<'a> {
         let mut accounts = [Account::default(); MOST_LAYERS];
         for ((account, layer), spent) in accounts.iter_mut().zip(layers).zip(spent) {
             *account = Account { sum: *spent, spent: *spent, paid: layer.paid(*spent) };
         }
-        Tier { layers, accounts }
+        Tier { layers, accounts, timed: *timed, paid: Paid::default() }
     }
 
     /// Brings each layer its part of a subject amount. Attachments rise, so the first that is not exceeded ends it.
@@ -123,33 +140,57 @@ impl<'a> Tier<'a> {
         }
     }
 
+    /// The same, and settles the layers with `(time)`, on a day with such a time share.
+    pub fn bring_timed(&mut self, subject: u64, share: u64) {
+        for ((layer, account), timed) in self.layers.iter().zip(&mut self.accounts).zip(&mut self.timed) {
+            if subject <= layer.attachment {
+                break;
+            }
+            account.sum += layer.limit.min(subject - layer.attachment);
+            if layer.is_timed {
+                account.sum = account.sum.min(layer.cap);
+                if account.sum != account.spent {
+                    let paid = account.settle(layer);
+                    let premium = basis_points(paid.premium, share);
+                    *timed += premium;
+                    self.paid.recovered += paid.recovered;
+                    self.paid.premium += premium;
+                }
+            }
+        }
+    }
+
     /// Cuts the sums off at the caps and gives what the tier recovers and charges for all that was brought.
     pub fn settle(&mut self) -> Paid {
-        let mut tier = Paid::default();
+        let mut tier = std::mem::take(&mut self.paid);
         for (layer, account) in self.layers.iter().zip(&mut self.accounts) {
-            // A layer that was brought nothing has none above it that was.
             if account.sum == account.spent {
+                // A layer that was brought nothing has none above it that was; one with `(time)` is settled.
+                if layer.is_timed {
+                    continue;
+                }
                 break;
             }
             account.sum = account.sum.min(layer.cap);
             if account.sum != account.spent {
-                let paid = layer.paid(account.sum);
-                tier.recovered += paid.recovered - account.paid.recovered;
-                tier.premium += paid.premium - account.paid.premium;
-                *account = Account { sum: account.sum, spent: account.sum, paid };
+                let paid = account.settle(layer);
+                tier.recovered += paid.recovered;
+                tier.premium += paid.premium;
             }
         }
         tier
     }
 
     pub fn figures(&self) -> impl Iterator<Item = Figures> + '_ {
-        self.layers.iter().zip(&self.accounts).map(|(layer, account)| layer.figures(account))
+        let accounts = self.accounts.iter().zip(self.timed);
+        self.layers.iter().zip(accounts).map(|(layer, (account, timed))| layer.figures(account, timed))
     }
 
-    /// Leaves the spent amounts in a standing.
-    pub fn leave(&self, spent: &mut [u64; MOST_LAYERS]) {
+    /// Leaves spent amounts and timed premiums in a standing.
+    pub fn leave(&self, spent: &mut [u64; MOST_LAYERS], timed: &mut [u64; MOST_LAYERS]) {
         for (spent, account) in spent.iter_mut().zip(&self.accounts) {
             *spent = account.spent;
         }
+        *timed = self.timed;
     }
 }

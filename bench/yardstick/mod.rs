@@ -10,7 +10,7 @@ mod writer;
 
 use layers::Tier;
 pub use programme::Programme;
-use programme::{MOST_LAYERS, NUMBERS};
+use programme::{MOST_LAYERS, NUMBERS, WHOLE};
 use reader::Reader;
 use writer::Writer;
 
@@ -25,12 +25,25 @@ const POWERS: [u64; 20] = {
     powers
 };
 
-/// Each layer's spent amount, by tier and place, and the last day run.
+/// The time share of each day, which begins with day 0.
+const SHARES: [u64; 367] = {
+    let mut shares = [0; 367];
+    let mut day = 1;
+    while day < shares.len() {
+        shares[day] = WHOLE * (366 - day as u64) / 365;
+        day += 1;
+    }
+    shares
+};
+
+/// Each layer's spent amount and timed premium, by tier and place, and the last day run.
 #[derive(Default)]
 pub struct Standing {
     pub risk: [u64; MOST_LAYERS],
     pub cat: [u64; MOST_LAYERS],
     pub day: u64,
+    pub risk_timed: [u64; MOST_LAYERS],
+    pub cat_timed: [u64; MOST_LAYERS],
 }
 
 #[derive(Default)]
@@ -64,30 +77,58 @@ struct Run<'a> {
 
 impl Run<'_> {
     /// Books the losses that come next in the text. What the layers of a tier recover and charge is taken once for
-    /// the event: one loss's recovery is the figure after it less the figure before it, so the differences add up.
-    fn event(&mut self, text: &mut Reader) -> Amounts {
+    /// the event: one loss's recovery is the figure after it less the figure before it, so the differences add up. Of
+    /// layers with `(time)`, if there are any, it is taken with each loss.
+    #[inline(always)]
+    fn event<const TIMED: bool>(&mut self, day: u64, text: &mut Reader) -> Amounts {
         let mut amounts = Amounts::default();
         let mut taken = [0; NUMBERS];
+        let share = if TIMED { SHARES[day as usize] } else { WHOLE };
         while let Some(loss) = text.loss() {
             let ceded = self.programme.treaties[loss.treaty].ceded(&loss, taken[loss.treaty]);
             taken[loss.treaty] += ceded;
             self.ceded[loss.treaty] += ceded;
             amounts.gross += loss.amount;
             amounts.ceded += ceded;
-            self.risk.bring(loss.amount - ceded);
+            match TIMED {
+                true => self.risk.bring_timed(loss.amount - ceded, share),
+                false => self.risk.bring(loss.amount - ceded),
+            }
         }
         if amounts.gross == 0 {
             return amounts;
         }
         let risk = self.risk.settle();
         let subject = amounts.gross - amounts.ceded - risk.recovered;
-        self.cat.bring(subject);
+        match TIMED {
+            true => self.cat.bring_timed(subject, share),
+            false => self.cat.bring(subject),
+        }
         let cat = self.cat.settle();
         amounts.risk = risk.recovered;
         amounts.cat = cat.recovered;
         amounts.net = subject - cat.recovered;
         amounts.premium = risk.premium + cat.premium;
         amounts
+    }
+
+    /// Books the events of a text, their lines in the statement and the last day; gives the totals.
+    #[inline(always)]
+    fn events<'b, const TIMED: bool>(
+        &mut self,
+        text: &[u8],
+        statement: Writer<'b>,
+        last_day: &mut u64,
+    ) -> (Writer<'b>, Amounts) {
+        let (mut text, mut statement) = (Reader(text), statement);
+        let mut total = Amounts::default();
+        while let Some(day) = text.event() {
+            let amounts = self.event::<TIMED>(day, &mut text);
+            total.add(&amounts);
+            statement = statement.event(day, &amounts);
+            *last_day = day;
+        }
+        (statement, total)
     }
 
     fn contracts<'a>(&self, statement: Writer<'a>) -> Writer<'a> {
@@ -111,21 +152,16 @@ pub fn run(programme: &Programme, standing: &mut Standing, events: &[u8], buffer
     let mut run = Run {
         programme,
         ceded: [0; NUMBERS],
-        risk: Tier::new(programme.risk(), &standing.risk),
-        cat: Tier::new(programme.cat(), &standing.cat),
+        risk: Tier::new(programme.risk(), &standing.risk, &standing.risk_timed),
+        cat: Tier::new(programme.cat(), &standing.cat, &standing.cat_timed),
     };
-    let mut text = Reader(events);
     let room = buffer.len();
-    let mut statement = Writer(buffer);
-    let mut total = Amounts::default();
-    while let Some(day) = text.event() {
-        let amounts = run.event(&mut text);
-        total.add(&amounts);
-        statement = statement.event(day, &amounts);
-        standing.day = day;
-    }
+    let (statement, total) = match programme.has_timed {
+        true => run.events::<true>(events, Writer(buffer), &mut standing.day),
+        false => run.events::<false>(events, Writer(buffer), &mut standing.day),
+    };
     let rest = run.contracts(statement).total(&total);
-    run.risk.leave(&mut standing.risk);
-    run.cat.leave(&mut standing.cat);
+    run.risk.leave(&mut standing.risk, &mut standing.risk_timed);
+    run.cat.leave(&mut standing.cat, &mut standing.cat_timed);
     room - rest.0.len()
 }

@@ -16,13 +16,16 @@ pub struct Programme {
     risk_count: usize,
     cat: [Layer; MOST_LAYERS],
     cat_count: usize,
+    /// Whether a layer has `(time)`.
+    pub has_timed: bool,
 }
 
 impl Programme {
     /// A programme from a table that the second calculation has read.
     pub fn new(table: &calculation::Programme) -> Programme {
+        let has_timed = table.risk.iter().chain(&table.cat).any(|layer| layer.is_timed);
         let mut programme =
-            Programme { risk_count: table.risk.len(), cat_count: table.cat.len(), ..Programme::default() };
+            Programme { risk_count: table.risk.len(), cat_count: table.cat.len(), has_timed, ..Programme::default() };
         for treaty in &table.treaties {
             programme.treaties[treaty.number as usize] = Treaty::new(treaty);
         }

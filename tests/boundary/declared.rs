@@ -24,11 +24,11 @@ fn constant(refusal: Refusal) -> String {
 
 fn main() {
     print_struct!(Treaty { kind, number, cede, capacity, retention, lines, limit });
-    print_struct!(Terms { attachment, limit, deductible, reinstatements, premium, placed, rates });
+    print_struct!(Terms { attachment, limit, deductible, reinstatements, premium, placed, rates, time });
     print_struct!(Treaties { places, count });
     print_struct!(Layers { places, count });
     print_struct!(Programme { treaties, risk, cat });
-    print_struct!(Standing { risk, cat, day });
+    print_struct!(Standing { risk, cat, day, risk_timed, cat_timed });
     print_struct!(Answer { refusal, number });
     print_struct!(Reading { refusal, line, programme });
     print_struct!(Opening { refusal, number, standing });

@@ -18,9 +18,16 @@ fn spent(tier: &[Layer], sums: &[u128]) -> String {
     amounts.map(|amount| format!(" {amount}")).collect()
 }
 
+/// The timed premiums of a tier.
+fn timed(amounts: &[u64]) -> String {
+    amounts.iter().map(|amount| format!(" {amount}")).collect()
+}
+
 fn standing_line(programme: &Programme, standing: &Standing) -> String {
     let (risk, cat) = (spent(&programme.risk, &standing.risk), spent(&programme.cat, &standing.cat));
-    format!("(standing (risk{risk}) (cat{cat}) (day {}))\n", standing.day)
+    let (risk_timed, cat_timed) = (timed(&standing.risk_timed), timed(&standing.cat_timed));
+    let timed = format!("(risk-timed{risk_timed}) (cat-timed{cat_timed})");
+    format!("(standing (risk{risk}) (cat{cat}) (day {}) {timed})\n", standing.day)
 }
 
 fn runs(folder: &Path, room: usize, programme: &Programme) -> Result<Vec<u8>, calculation::Refusal> {

@@ -51,7 +51,11 @@ static void print_tier(const char *name, cession_layers tier) {
         for (uint64_t rate = 0; rate < l.reinstatements; rate++) {
             printf(" " NUMBER, l.rates[rate]);
         }
-        printf(") (placed " NUMBER "))\n", l.placed);
+        printf(") (placed " NUMBER ")", l.placed);
+        if (l.time != 0) {
+            printf(" (time)");
+        }
+        printf(")\n");
     }
 }
 
@@ -63,19 +67,22 @@ static void print_fields(cession_programme programme) {
     print_tier("cat", programme.cat);
 }
 
-static void print_spent(const char *tier, const uint64_t *spent) {
-    printf(" (%s", tier);
+static void print_places(const char *name, const uint64_t *places) {
+    printf(" (%s", name);
     for (size_t i = 0; i < CESSION_PLACES; i++) {
-        printf(" " NUMBER, spent[i]);
+        printf(" " NUMBER, places[i]);
     }
     printf(")");
 }
 
 static void print_standing(const cession_standing *standing) {
     printf("(standing");
-    print_spent("risk", standing->risk);
-    print_spent("cat", standing->cat);
-    printf(" (day " NUMBER "))\n", standing->day);
+    print_places("risk", standing->risk);
+    print_places("cat", standing->cat);
+    printf(" (day " NUMBER ")", standing->day);
+    print_places("risk-timed", standing->risk_timed);
+    print_places("cat-timed", standing->cat_timed);
+    printf(")\n");
 }
 
 static void print_refusal(uint64_t refusal, uint64_t second) {

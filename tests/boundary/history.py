@@ -21,7 +21,8 @@ def layer_line(tier, layer):
     rates = "".join(f" {rate}" for rate in layer.rates[: layer.reinstatements])
     back = f"(back {layer.reinstatements} {layer.premium}{rates})"
     band = f"(band {layer.attachment} {layer.limit})"
-    return f"({tier} {band} (deduct {layer.deductible}) {back} (placed {layer.placed}))\n"
+    time = " (time)" if layer.time else ""
+    return f"({tier} {band} (deduct {layer.deductible}) {back} (placed {layer.placed}){time})\n"
 
 
 def fields(programme):
@@ -32,8 +33,10 @@ def fields(programme):
 
 
 def standing_line(standing):
-    risk, cat = (" ".join(map(str, spent)) for spent in (standing.risk, standing.cat))
-    return f"(standing (risk {risk}) (cat {cat}) (day {standing.day}))\n"
+    rows = (standing.risk, standing.cat, standing.risk_timed, standing.cat_timed)
+    risk, cat, risk_timed, cat_timed = (" ".join(map(str, row)) for row in rows)
+    timed = f"(risk-timed {risk_timed}) (cat-timed {cat_timed})"
+    return f"(standing (risk {risk}) (cat {cat}) (day {standing.day}) {timed})\n"
 
 
 def refusal_line(refused):

@@ -20,10 +20,11 @@ fn treaty_line(treaty: &Treaty) -> String {
 }
 
 fn layer_line(tier: &str, terms: &Terms) -> String {
-    let Terms { attachment, limit, deductible, reinstatements, premium, placed, rates } = terms;
+    let Terms { attachment, limit, deductible, reinstatements, premium, placed, rates, time } = terms;
     let listed: String = rates[..*reinstatements as usize].iter().map(|rate| format!(" {rate}")).collect();
     let back = format!("(back {reinstatements} {premium}{listed})");
-    format!("({tier} (band {attachment} {limit}) (deduct {deductible}) {back} (placed {placed}))\n")
+    let time = if *time == 0 { "" } else { " (time)" };
+    format!("({tier} (band {attachment} {limit}) (deduct {deductible}) {back} (placed {placed}){time})\n")
 }
 
 fn fields(programme: &Programme) -> String {
@@ -34,9 +35,11 @@ fn fields(programme: &Programme) -> String {
 }
 
 fn standing_line(standing: &Standing) -> String {
-    let amounts = |spent: &[u64]| spent.iter().fold(String::new(), |line, amount| line + &format!(" {amount}"));
+    let amounts = |places: &[u64]| places.iter().fold(String::new(), |line, amount| line + &format!(" {amount}"));
     let (risk, cat) = (amounts(standing.risk()), amounts(standing.cat()));
-    format!("(standing (risk{risk}) (cat{cat}) (day {}))\n", standing.day())
+    let (risk_timed, cat_timed) = (amounts(standing.risk_timed()), amounts(standing.cat_timed()));
+    let timed = format!("(risk-timed{risk_timed}) (cat-timed{cat_timed})");
+    format!("(standing (risk{risk}) (cat{cat}) (day {}) {timed})\n", standing.day())
 }
 
 fn refusal_line(refusal: &Refusal) -> String {

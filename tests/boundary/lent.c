@@ -63,7 +63,7 @@ static void print_left(const char *call, const char *name, cession_answer answer
 }
 
 static void try_write(const char *name, cession_programme programme, size_t length) {
-    cession_standing standing = {{0}, {0}, 0};
+    cession_standing standing = {{0}, {0}, 0, {0}, {0}};
     set_out(standing);
     print_left("write", name, cession_write(programme, lent(length), length), &table);
 }
@@ -111,6 +111,12 @@ static void try_programmes(cession_programme sound, cession_standing begun) {
     broken.cat.places[0].rates[1] = 20001;
     try_programme("rate over 20,000", broken, begun);
     broken = sound;
+    broken.cat.places[0].time = 2;
+    try_programme("time 2", broken, begun);
+    broken = sound;
+    broken.risk.places[0].time = 1;
+    try_programme("time in an unused place", broken, begun);
+    broken = sound;
     broken.treaties.count = 9;
     try_programme("count of treaties 9", broken, begun);
     broken = sound;
@@ -127,7 +133,8 @@ static void try_programmes(cession_programme sound, cession_standing begun) {
     try_programme("surplus with a share ceded", broken, begun);
 }
 
-// The cap of cat layer 1 is 100000000 + 50000000 * 3.
+// The cap of cat layer 1 is 100000000 + 50000000 * 3. Of the 13 that cat layer 3 has spent 12 are recovered, at
+// 22500000 / 150000000 each: with (time) its timed premium is at most 1.8, which is 2.
 static void try_standings(cession_programme programme, cession_standing begun) {
     cession_standing broken = begun;
     broken.cat[0] = 250000001;
@@ -141,6 +148,20 @@ static void try_standings(cession_programme programme, cession_standing begun) {
     broken = begun;
     broken.day = 367;
     try_run("day 367 in the standing", programme, broken, &events, MOST);
+    broken = begun;
+    broken.risk_timed[0] = 1;
+    try_run("missing risk layer with a timed premium", programme, broken, &events, MOST);
+    broken = begun;
+    broken.cat_timed[7] = 1;
+    try_run("missing cat layer with a timed premium", programme, broken, &events, MOST);
+    broken = begun;
+    broken.cat_timed[2] = 2;
+    try_run("layer without (time) with a timed premium", programme, broken, &events, MOST);
+    cession_programme timed = programme;
+    timed.cat.places[2].time = 1;
+    try_run("the same with (time) and no buffer", timed, broken, &events, 0);
+    broken.cat_timed[2] = 3;
+    try_run("timed premium above the amount premium", timed, broken, &events, 0);
 }
 
 // A line that is accepted under the standing, then the line given.
@@ -173,8 +194,8 @@ int main(int count, char **arguments) {
     load(folder, "events.txt", &events);
     load(folder, "statement.txt", &statement);
     cession_programme programme = cession_read(table.bytes, table.length).programme;
-    cession_standing fresh = {{0}, {0}, 0};
-    cession_standing begun = {{0}, {11, 12, 13, 14, 15}, 90};
+    cession_standing fresh = {{0}, {0}, 0, {0}, {0}};
+    cession_standing begun = {{0}, {11, 12, 13, 14, 15}, 90, {0}, {0}};
     static text none;
     try_write("buffer of length 0", programme, 0);
     try_write("buffer one byte short", programme, table.length - 1);

@@ -4,6 +4,7 @@ functions below them.
 """
 
 import ctypes
+import dataclasses
 import pathlib
 import sys
 
@@ -57,9 +58,9 @@ def try_write(name, length):
     show("write", name, *left(lambda buffer, _: answer(cession.write_into, PROGRAMME, buffer), TABLE, length))
 
 
-def try_run(name, standing, events, length=MOST):
+def try_run(name, standing, events, length=MOST, programme=PROGRAMME):
     def call(buffer, lent):
-        return answer(cession.run_into, PROGRAMME, lent, events, buffer)
+        return answer(cession.run_into, programme, lent, events, buffer)
 
     show("run", name, *left(call, STATEMENT, length, standing.to_raw()))
 
@@ -94,6 +95,8 @@ def try_programmes():
         ("rate in an unused place", lambda programme: programme.cat.places[7].rates, 19, 1),
         ("rate past the last reinstatement", lambda programme: programme.cat.places[0].rates, 2, 1),
         ("rate over 20,000", lambda programme: programme.cat.places[0].rates, 1, 20001),
+        ("time 2", lambda programme: programme.cat.places[0], "time", 2),
+        ("time in an unused place", lambda programme: programme.risk.places[0], "time", 1),
         ("count of treaties 9", lambda programme: programme.treaties, "count", 9),
         ("count of risk layers 9", lambda programme: programme.risk, "count", 9),
         ("count of cat layers 9", lambda programme: programme.cat, "count", 9),
@@ -110,12 +113,25 @@ def try_programmes():
 
 
 def try_standings():
-    """The cap of cat layer 1 is 100000000 + 50000000 * 3."""
+    """The cap of cat layer 1 is 100000000 + 50000000 * 3. Of the 13 that cat layer 3 has spent 12 are recovered, at
+    22500000 / 150000000 each: with (time) its timed premium is at most 1.8, which is 2.
+    """
     cat = BEGUN.cat
     try_run("cat layer 1 spent above its cap", cession.Standing(cat=(250000001,) + cat[1:], day=90), EVENTS)
     try_run("missing risk layer spent", cession.Standing(risk=(1,) + (0,) * 7, cat=cat, day=90), EVENTS)
     try_run("missing cat layer spent", cession.Standing(cat=cat[:5] + (1, 0, 0), day=90), EVENTS)
     try_run("day 367 in the standing", cession.Standing(cat=cat, day=367), EVENTS)
+
+    def begun(row, place, amount):
+        return dataclasses.replace(BEGUN, **{row: (0,) * place + (amount,) + (0,) * (7 - place)})
+
+    try_run("missing risk layer with a timed premium", begun("risk_timed", 0, 1), EVENTS)
+    try_run("missing cat layer with a timed premium", begun("cat_timed", 7, 1), EVENTS)
+    try_run("layer without (time) with a timed premium", begun("cat_timed", 2, 2), EVENTS)
+    layers = PROGRAMME.cat
+    timed = dataclasses.replace(PROGRAMME, cat=layers[:2] + (dataclasses.replace(layers[2], time=1),) + layers[3:])
+    try_run("the same with (time) and no buffer", begun("cat_timed", 2, 2), EVENTS, 0, timed)
+    try_run("timed premium above the amount premium", begun("cat_timed", 2, 3), EVENTS, 0, timed)
 
 
 def try_events():

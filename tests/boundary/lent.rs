@@ -82,13 +82,15 @@ impl Lent {
 
     /// Each programme has one number that no table text reads to.
     fn programmes(&self) {
-        let broken: [(&str, fn(&mut raw::Programme)); 11] = [
+        let broken: [(&str, fn(&mut raw::Programme)); 13] = [
             ("treaty in an unused place", |programme| programme.treaties.places[3].limit = 1),
             ("risk layer in an unused place", |programme| programme.risk.places[0].placed = 1),
             ("cat layer in an unused place", |programme| programme.cat.places[7].attachment = 1),
             ("rate in an unused place", |programme| programme.cat.places[7].rates[19] = 1),
             ("rate past the last reinstatement", |programme| programme.cat.places[0].rates[2] = 1),
             ("rate over 20,000", |programme| programme.cat.places[0].rates[1] = 20_001),
+            ("time 2", |programme| programme.cat.places[0].time = 2),
+            ("time in an unused place", |programme| programme.risk.places[0].time = 1),
             ("count of treaties 9", |programme| programme.treaties.count = 9),
             ("count of risk layers 9", |programme| programme.risk.count = 9),
             ("count of cat layers 9", |programme| programme.cat.count = 9),
@@ -104,19 +106,29 @@ impl Lent {
         }
     }
 
-    /// The cap of cat layer 1 is 100000000 + 50000000 * 3.
+    /// The cap of cat layer 1 is 100000000 + 50000000 * 3. Of the 13 that cat layer 3 has spent 12 are recovered, at
+    /// 22500000 / 150000000 each: with (time) its timed premium is at most 1.8, which is 2.
     fn standings(&self) {
-        let broken: [(&str, fn(&mut raw::Standing)); 4] = [
+        let broken: [(&str, fn(&mut raw::Standing)); 7] = [
             ("cat layer 1 spent above its cap", |standing| standing.cat[0] = 250_000_001),
             ("missing risk layer spent", |standing| standing.risk[0] = 1),
             ("missing cat layer spent", |standing| standing.cat[5] = 1),
             ("day 367 in the standing", |standing| standing.day = 367),
+            ("missing risk layer with a timed premium", |standing| standing.risk_timed[0] = 1),
+            ("missing cat layer with a timed premium", |standing| standing.cat_timed[7] = 1),
+            ("layer without (time) with a timed premium", |standing| standing.cat_timed[2] = 2),
         ];
         for (name, change) in broken {
             let mut standing = self.begun;
             change(&mut standing);
             self.run(name, self.programme(), standing, &self.events, MOST);
         }
+        let (mut timed, mut standing) = (self.programme(), self.begun);
+        timed.cat.places[2].time = 1;
+        standing.cat_timed[2] = 2;
+        self.run("the same with (time) and no buffer", timed, standing, &self.events, 0);
+        standing.cat_timed[2] = 3;
+        self.run("timed premium above the amount premium", timed, standing, &self.events, 0);
     }
 
     /// A line that is accepted under the standing, then a line that is not.

@@ -6,8 +6,9 @@ import sys
 BIG = 10**13
 
 
-def layer(tier, attachment, limit, deductible=0, back="1 70000 10000", placed=9100):
-    return "(%s (band %d %d) (deduct %d) (back %s) (placed %d))" % (tier, attachment, limit, deductible, back, placed)
+def layer(tier, attachment, limit, deductible=0, back="1 70000 10000", placed=9100, time=""):
+    terms = tier, attachment, limit, deductible, back, placed, time
+    return "(%s (band %d %d) (deduct %d) (back %s) (placed %d)%s)" % terms
 
 
 def reinstated(premium, rates):
@@ -44,6 +45,10 @@ def programmes():
     yield "thin", [layer("cat", place * 10**12, 1 + place % 2, 10**15, rising, 10000) for place in range(8)], [
         "(event 1 %s)" % losses(30, (0,), BIG - 1)] * 5
     equal = reinstated(10**12, [20000] * 20)
+    # The most that a layer can have recovered, and the most premium by time.
+    yield "timed", [layer("cat", place * BIG, BIG, 0, back, 10000, " (time)")
+                    for place, back in ((0, equal), (1, rising))], [
+        "(event %d %s)" % (day, losses(30, (0,), BIG)) for day in [1] * 20 + [366]]
     yield "largest", treaties() + [layer(tier, BIG, BIG, 10**15, back, 9999)
                                    for tier, back in (("risk", equal), ("cat", rising))], [
         "(event 366 %s)" % losses(40, range(9), BIG)] * 30

@@ -114,11 +114,12 @@ def own(picture):
     subject(picture, "A", cat, 2310000)
     subject(picture, "B", cat, 4610000)
     subject(picture, "C", cat, 200000)
-    row(picture, "A", "30", "4,100,000", "800,000", "990,000", "2,310,000", "486,000", "1,824,000", "59,580")
-    row(picture, "B", "200", "4,700,000", "0", "90,000", "4,610,000", "1,657,500", "2,952,500", "56,412")
+    row(picture, "A", "30", "4,100,000", "800,000", "990,000", "2,310,000", "486,000", "1,824,000", "58,421")
+    row(picture, "B", "200", "4,700,000", "0", "90,000", "4,610,000", "1,657,500", "2,952,500", "25,651")
     row(picture, "C", "250", "500,000", "300,000", "0", "200,000", "0", "200,000", "0")
     for words in ("2 reinstatements at 50% and 120% of 120,000; cover left 3,190,000",
-                  "recovered 1,686,000; reinstatement premium 70,992"):
+                  "recovered 1,686,000; premium by amount and time 39,072",
+                  "recovered 457,500; reinstatement premium 0"):
         same(picture.texts("cat").count(words), 1, "the count of: " + words)
     whole = 1080  # the width of the largest gross, 4,700,000
     for name, parts in (("A", (("ceded", 800000), ("risk", 990000), ("cat", 486000), ("net", 1824000))),

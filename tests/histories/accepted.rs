@@ -10,6 +10,8 @@ use crate::totals::{numbers, totals};
 pub struct Accepted {
     pub totals: [u64; 6],
     gross: u64,
+    /// The day of each event, and of each loss.
+    days: Vec<u64>,
     last: String,
     had_another_programme: bool,
 }
@@ -51,13 +53,21 @@ fn former_premium(layer: &Layer, used: u128) -> Option<u128> {
     is_one_rate.then_some((product + 5_000 * u128::from(layer.limit)) / (10_000 * u128::from(layer.limit)))
 }
 
+/// Document 02, Q-4: 10,000 × (366 − D) / 365, rounded down.
+fn share(day: u64) -> u128 {
+    u128::from(10_000 * (366 - day) / 365)
+}
+
 impl Accepted {
     pub fn add(&mut self, events: &[u8], statement: &[u8], is_of_another_programme: bool) {
         for (total, amount) in self.totals.iter_mut().zip(totals(statement).unwrap_or_default()) {
             *total += amount;
         }
-        let losses = |line: &str| numbers(line).iter().skip(3).step_by(3).sum::<u64>();
-        self.gross += String::from_utf8_lossy(events).lines().map(losses).sum::<u64>();
+        for line in String::from_utf8_lossy(events).lines().map(numbers) {
+            let losses = line.iter().skip(3).step_by(3);
+            self.days.extend(vec![line[0]; 1 + losses.len()]);
+            self.gross += losses.sum::<u64>();
+        }
         self.last = String::from_utf8_lossy(statement).into_owned();
         self.had_another_programme |= is_of_another_programme;
     }
@@ -74,7 +84,7 @@ impl Accepted {
             let used = used(layer, sum);
             equal("a layer's recoveries", line[3], recovered(layer, used) as u64)?;
             if let Some(premium) = former_premium(layer, used) {
-                equal("a layer's premium at one rate", line[4], premium as u64)?;
+                self.check_premium(layer, line[4], premium)?;
             }
         }
         if self.had_another_programme {
@@ -83,5 +93,22 @@ impl Accepted {
         equal("risk recoveries", risk, sum(&risk_lines, 3))?;
         equal("cat recoveries", cat, sum(&cat_lines, 3))?;
         equal("premium", premium, sum(&risk_lines, 4) + sum(&cat_lines, 4))
+    }
+
+    /// A layer's premium where its amount premium is known. By time it is, to half a cent for each event and loss,
+    /// between what it would be if all of them were on the last day and if all were on the first.
+    fn check_premium(&self, layer: &Layer, found: u64, amount_premium: u128) -> Result<(), String> {
+        if !layer.is_timed {
+            return equal("a layer's premium at one rate", found, amount_premium as u64);
+        }
+        let (Some(first), Some(last), false) = (self.days.first(), self.days.last(), self.had_another_programme) else {
+            return Ok(());
+        };
+        let (halves, found) = (10_000 * self.days.len() as u128, 20_000 * u128::from(found));
+        let (most, least) = (2 * amount_premium * share(*first), 2 * amount_premium * share(*last));
+        if found <= most + halves && found + halves >= least {
+            return Ok(());
+        }
+        Err(format!("of the whole history, a premium by time: {found} is not from {least} to {most}, give {halves}"))
     }
 }

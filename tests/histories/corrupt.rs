@@ -6,6 +6,7 @@ use crate::random::Random;
 use crate::raw;
 
 const TREATY: [Range; 7] = [(1, 2), (1, 8), SHARE, AMOUNT, AMOUNT, (0, 100), AMOUNT];
+const TIME: Range = (0, 1);
 const COUNT: Range = (0, 8);
 
 fn treaty_fields(treaty: &mut raw::Treaty) -> [&mut u64; 7] {
@@ -14,7 +15,7 @@ fn treaty_fields(treaty: &mut raw::Treaty) -> [&mut u64; 7] {
 }
 
 fn layer_fields(terms: &mut raw::Terms) -> [&mut u64; 6] {
-    let raw::Terms { attachment, limit, deductible, reinstatements, premium, placed, rates: _ } = terms;
+    let raw::Terms { attachment, limit, deductible, reinstatements, premium, placed, rates: _, time: _ } = terms;
     [attachment, limit, deductible, reinstatements, premium, placed]
 }
 
@@ -85,6 +86,11 @@ fn tier(random: &mut Random, tier: &mut raw::Layers) {
     if random.one_in(4) {
         return rate(random, &mut tier.places[place]);
     }
+    if random.one_in(6) {
+        let time = &mut tier.places[place].time;
+        *time = in_field(random, *time, TIME, &[]);
+        return;
+    }
     let field = random.place(LAYER.len());
     let given = at_neighbours(&tier.places, place, field);
     let value = in_field(random, *layer_fields(&mut tier.places[place])[field], LAYER[field], &given);
@@ -109,12 +115,26 @@ fn spent(random: &mut Random, tier: &[Layer], spent: &mut [u64; 8]) {
     spent[place] = other(random, spent[place], &[cap + 1, cap + 1, cap + 1, cap, below, u64::MAX]);
 }
 
+/// Another timed premium: one above the most that the layer can have at its spent amount, that most, or one below. A
+/// layer without `(time)` and a missing one can have none.
+fn timed(random: &mut Random, tier: &[Layer], spent: &[u64; 8], timed: &mut [u64; 8]) {
+    let most = |place: usize| tier.get(place).map_or(0, |layer| layer.most_timed(u128::from(spent[place])));
+    let charged: Vec<usize> = (0..8).filter(|place| most(*place) > 0).collect();
+    let any = charged.is_empty() || random.one_in(4);
+    let place = if any { place(random, tier.len()) } else { random.pick(&charged) };
+    let most = most(place);
+    let below = random.between(0, most);
+    timed[place] = other(random, timed[place], &[most + 1, most + 1, most, most, below, below, below, 0, u64::MAX]);
+}
+
 pub fn standing(random: &mut Random, programme: &Programme, standing: &raw::Standing) -> raw::Standing {
     let mut changed = *standing;
-    match random.between(0, 2) {
+    match random.between(0, 4) {
         0 => changed.day = other(random, changed.day, &[0, 1, 365, 366, 367, 367, 368, 1 << 32, u64::MAX]),
         1 => spent(random, &programme.risk, &mut changed.risk),
-        _ => spent(random, &programme.cat, &mut changed.cat),
+        2 => spent(random, &programme.cat, &mut changed.cat),
+        3 => timed(random, &programme.risk, &changed.risk, &mut changed.risk_timed),
+        _ => timed(random, &programme.cat, &changed.cat, &mut changed.cat_timed),
     }
     changed
 }

@@ -105,15 +105,17 @@ impl History {
         if found != expected {
             return Err(self.difference(&run, &lent, &found, &expected));
         }
-        tally.count_run(&run, &self.programme, answer);
+        tally.count_run(&run, &self.programme, &before.standing, answer);
         if run.standing.is_some() {
             self.lent = before;
         } else if answer.refusal == 0 {
             tally.count_bounds(&ledger, &self.ledger);
+            tally.timed.count_charged(&ledger, &self.ledger);
             tally.limits.count(&self.ledger.programme, &run.events);
-            let statement = found.room.text(answer.number);
-            tally.roundings.count(&self.ledger.programme, &run.events, statement);
+            let (statement, charges) = (found.room.text(answer.number), self.ledger.charges(&lent, &run.events));
+            tally.roundings.count(&self.ledger.programme, &run.events, statement, &charges);
             tally.rates.count(&self.ledger.programme, statement);
+            tally.times.count(&charges);
             self.take_in(&run, &lent, &found, tally)?;
         }
         Ok(())

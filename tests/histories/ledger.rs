@@ -1,7 +1,8 @@
-//! The second calculation's side of a history: uncut sums, fed by the accepted runs alone.
+//! The second calculation's side of a history: uncut sums of losses and sums of premiums by time, fed by the accepted
+//! runs alone.
 
 use crate::calculation::table::{Layer, Programme};
-use crate::calculation::{self, take_over, Refusal, Standing};
+use crate::calculation::{self, take_over, Charges, Refusal, Standing};
 use crate::raw;
 use crate::records;
 
@@ -31,7 +32,20 @@ impl Ledger {
         risk.chain(self.programme.cat.iter().zip(self.sums.cat))
     }
 
-    /// Runs events. Under another programme the run begins with the spent amounts that this ledger stands at.
+    /// Each layer's premium by time.
+    pub fn timed(&self) -> impl Iterator<Item = u64> + '_ {
+        let Standing { risk_timed, cat_timed, .. } = &self.sums;
+        let (risk, cat) = (self.programme.risk.len(), self.programme.cat.len());
+        risk_timed[..risk].iter().chain(&cat_timed[..cat]).copied()
+    }
+
+    /// What events that were accepted from a standing brought to the layers that charge by time.
+    pub fn charges(&self, from: &raw::Standing, events: &[u8]) -> Vec<Charges<'_>> {
+        let sums = take_over(&self.programme, &records::spent(from)).unwrap_or_default();
+        calculation::charges(&self.programme, &sums, events)
+    }
+
+    /// Runs events. Under another programme the run begins with the standing that this ledger comes to.
     pub fn run(&mut self, programme: &raw::Programme, events: &[u8], buffer: &mut [u8]) -> Result<usize, Refusal> {
         if *programme == records::raw_programme(&self.programme) {
             return calculation::run(&self.programme, &mut self.sums, events, buffer);

@@ -33,6 +33,9 @@ mod runs;
 #[path = "../shared/show.rs"]
 mod show;
 mod tally;
+mod timed;
+#[path = "../shared/times.rs"]
+mod times;
 #[path = "../shared/totals.rs"]
 mod totals;
 

@@ -23,7 +23,8 @@ fn raw_terms(layer: &Layer) -> raw::Terms {
     let Layer { attachment, limit, deductible, premium, placed, .. } = *layer;
     let reinstatements = layer.reinstatements();
     let rates = places(&layer.rates, |rate| *rate);
-    raw::Terms { attachment, limit, deductible, reinstatements, premium, placed, rates }
+    let time = u64::from(layer.is_timed);
+    raw::Terms { attachment, limit, deductible, reinstatements, premium, placed, rates, time }
 }
 
 /// The first places filled, the others left at 0.
@@ -54,9 +55,9 @@ fn treaty(record: &raw::Treaty) -> Option<Treaty> {
 }
 
 fn layer(record: &raw::Terms) -> Option<Layer> {
-    let raw::Terms { attachment, limit, deductible, reinstatements, premium, placed, rates } = *record;
+    let raw::Terms { attachment, limit, deductible, reinstatements, premium, placed, rates, time } = *record;
     let rates = rates.get(..usize::try_from(reinstatements).ok()?)?.to_vec();
-    Some(Layer { attachment, limit, deductible, premium, rates, placed })
+    Some(Layer { attachment, limit, deductible, premium, rates, placed, is_timed: time == 1 })
 }
 
 fn layers(tier: &raw::Layers) -> Option<Vec<Layer>> {
@@ -64,8 +65,8 @@ fn layers(tier: &raw::Layers) -> Option<Vec<Layer>> {
 }
 
 /// The programme whose record this is; none if the record has a number that no programme's record has: a count
-/// above 8, a kind that is none, more reinstatements than rates, anything but 0 in an unused place, in a term of the
-/// other kind or in a rate past the last reinstatement.
+/// above 8, a kind that is none, more reinstatements than rates, a time other than 0 or 1, anything but 0 in an unused
+/// place, in a term of the other kind or in a rate past the last reinstatement.
 pub fn programme(record: &raw::Programme) -> Option<Programme> {
     let treaties = record.treaties.places.get(..record.treaties.count)?.iter().map(treaty).collect::<Option<_>>()?;
     let programme = Programme { treaties, risk: layers(&record.risk)?, cat: layers(&record.cat)? };
@@ -83,9 +84,11 @@ fn cut_off(tier: &[Layer], sums: &[u128; 8]) -> [u64; 8] {
 /// The standing of uncut sums: each cut off at its layer's cap.
 pub fn raw_standing(programme: &Programme, sums: &Standing) -> raw::Standing {
     let (risk, cat) = (cut_off(&programme.risk, &sums.risk), cut_off(&programme.cat, &sums.cat));
-    raw::Standing { risk, cat, day: sums.day }
+    let Standing { day, risk_timed, cat_timed, .. } = *sums;
+    raw::Standing { risk, cat, day, risk_timed, cat_timed }
 }
 
 pub fn spent(standing: &raw::Standing) -> Spent {
-    Spent { risk: standing.risk, cat: standing.cat, day: standing.day }
+    let raw::Standing { risk, cat, day, risk_timed, cat_timed } = *standing;
+    Spent { risk, cat, day, risk_timed, cat_timed }
 }

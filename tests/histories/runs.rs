@@ -33,10 +33,11 @@ enum Rule {
     Room,
 }
 
-const RULES: [Rule; 14] = [
+const RULES: [Rule; 15] = [
     Rule::Programme,
     Rule::Programme,
     Rule::Programme,
+    Rule::Standing,
     Rule::Standing,
     Rule::Standing,
     Rule::Size,
@@ -104,7 +105,7 @@ impl Runs {
         for _ in broken.iter().filter(|rule| **rule == Rule::Line) {
             self.damage(&mut lines, lent.day);
         }
-        let events = if breaks(Rule::Size) { self.full(&lines) } else { lines.concat() };
+        let events = if breaks(Rule::Size) { self.full(&lines, lent.day) } else { lines.concat() };
         let trial = try_without_room(&programme, standing.as_ref(), &events, ledger);
         let length = self.length(trial, breaks(Rule::Room));
         Run { programme, standing, events, room: Room::new(&mut self.random, length) }
@@ -118,7 +119,7 @@ impl Runs {
     /// Lines that are accepted: drawn, aimed at a layer's bound, or none.
     fn lines(&mut self, ledger: &Ledger) -> Lines {
         let random = &mut self.random;
-        let later = if random.one_in(30) { LAST_DAY } else { random.pick(&[0, 0, 1, 3, 20]) };
+        let later = if random.one_in(30) { LAST_DAY } else { random.pick(&[0, 0, 1, 3, 20, 73]) };
         let day = (ledger.sums.day + later).clamp(1, LAST_DAY);
         let kind = random.between(0, 9);
         if kind == 0 {
@@ -146,10 +147,11 @@ impl Runs {
     }
 
     /// A text of 65,536 bytes or more: events alone, or the lines and other bytes after them.
-    fn full(&mut self, lines: &Lines) -> Vec<u8> {
+    fn full(&mut self, lines: &Lines, last_day: u64) -> Vec<u8> {
         let size = EVENTS_BYTES + self.random.pick(&[0, 1, 1, 1, 2, 1_000]);
         if self.random.one_in(2) {
-            return draw::full_events(&mut self.random, self.scale, &self.table, size);
+            let day = self.random.between(last_day.max(100), LAST_DAY);
+            return draw::full_events(&mut self.random, self.scale, &self.table, size, day);
         }
         let mut text = lines.concat();
         text.resize(size, self.random.pick(b"x\n)"));

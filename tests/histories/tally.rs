@@ -5,10 +5,12 @@ use crate::draw::LARGEST_RATE;
 use crate::feeds::Feeds;
 use crate::ledger::Ledger;
 use crate::limits::Limits;
-use crate::raw::{Answer, Programme};
+use crate::raw::{Answer, Programme, Standing};
 use crate::rates::Rates;
 use crate::roundings::Roundings;
 use crate::runs::Run;
+use crate::timed::Timed;
+use crate::times::Times;
 use crate::totals::has_all;
 use std::collections::BTreeMap;
 
@@ -66,6 +68,8 @@ pub struct Tally {
     pub rates: Rates,
     /// Runs refused with 6 for a rate, by where it stands.
     misrated: [usize; MISRATED.len()],
+    pub times: Times,
+    pub timed: Timed,
     feeds: Feeds,
     /// Of the history under way.
     reaches: [bool; BOUNDS.len()],
@@ -89,7 +93,9 @@ fn misrated(programme: &Programme) -> Option<usize> {
 }
 
 impl Tally {
-    pub fn count_run(&mut self, run: &Run, programme: &Programme, answer: Answer) {
+    /// Counts a run of a history with this programme, whose standing is this before the run.
+    pub fn count_run(&mut self, run: &Run, programme: &Programme, standing: &Standing, answer: Answer) {
+        self.timed.count_run(run, standing, answer.refusal);
         let length = run.room.length() as u64;
         self.runs += 1;
         if answer.refusal == 0 {
@@ -129,6 +135,7 @@ impl Tally {
             self.met[place] += usize::from(self.meets[place]);
         }
         (self.reaches, self.meets) = Default::default();
+        self.timed.count_history();
     }
 
     pub fn print(&self, seed: u64) {
@@ -151,6 +158,8 @@ impl Tally {
         println!("histories: {}", self.rates.shown());
         let counts = MISRATED.iter().zip(self.misrated).map(|(name, count)| format!("{name} {count}"));
         println!("histories: rates refused with 6: {}", counts.collect::<Vec<String>>().join(", "));
+        println!("histories: {}", self.times.shown());
+        println!("histories: {}", self.timed.shown());
         println!("histories: {}", self.feeds.shown());
     }
 
@@ -169,6 +178,8 @@ impl Tally {
         for (name, count) in MISRATED.iter().zip(self.misrated) {
             counts.push((format!("runs refused with 6 for a rate {name}"), count, LEAST_MISRATED));
         }
+        let timed = self.timed.counts().into_iter();
+        counts.extend(timed.map(|(name, count, least)| (format!("by time: {name}"), count, least)));
         for refusal in REFUSALS {
             let count = self.refused.get(&refusal).copied().unwrap_or(0);
             counts.push((format!("runs refused with {refusal}"), count, LEAST_RUNS));
@@ -180,6 +191,7 @@ impl Tally {
         let too_few = counts.into_iter().filter(|(_, count, least)| count * 100 < self.histories * least);
         let too_few = too_few.map(|(name, count, least)| format!("{name}: {count}, not {least} for a hundred histories"));
         let too_few = too_few.chain(self.rates.unmet().map(|name| format!("reinstated: none met: {name}")));
+        let too_few = too_few.chain(self.times.unmet().map(|name| format!("charged by time: none met: {name}")));
         too_few.chain(self.feeds.unmet().map(|name| format!("line feeds: none met: {name}"))).collect()
     }
 }

@@ -189,6 +189,74 @@ fn rates(checks: &mut Checks) {
     checks.equal("past twenty", premiums(&format!("20 10000{listed}"), 10_000, &[2_050, 2_100, 2_101]), vec![210; 3]);
 }
 
+/// A layer whose amount premium is 182,500 for a loss of 500,000: half the limit, at 100% of 365,000.
+fn timed_layer(tier: &str) -> String {
+    format!("({tier} (band 0 1000000) (deduct 0) (back 1 365000 10000) (placed 10000) (time))\n")
+}
+
+/// An event of losses under no treaty.
+fn dated(day: u64, amounts: &[u64]) -> String {
+    let forms: String = amounts.iter().map(|amount| format!(" (loss 0 9 {amount})")).collect();
+    format!("(event {day}{forms})\n")
+}
+
+/// The premium of each event.
+fn charged(table: &str, events: &[String]) -> Vec<u64> {
+    column(&program(table, &events.concat()), "(event", "premium")
+}
+
+/// The premium of such an event on each of the days, each in a year of its own.
+fn charged_alone(table: &str, days: &[u64], amounts: &[u64]) -> Vec<u64> {
+    days.iter().flat_map(|day| charged(table, &[dated(*day, amounts)])).collect()
+}
+
+/// The time shares, read off a premium of 10,000. Days left and shares before they are rounded: 364, 9,972.60; 292 of
+/// 365, four fifths; 266, 7,287.67; 182, 4,986.30; 166, 4,547.95; 73, a fifth; 1, 27.40.
+fn time_shares(checks: &mut Checks) {
+    let cent = "(cat (band 0 1) (deduct 0) (back 1 10000 10000) (placed 10000) (time))\n";
+    let days = [1, 2, 74, 100, 184, 200, 293, 365, 366];
+    let shares = vec![10_000, 9_972, 8_000, 7_287, 4_986, 4_547, 2_000, 27, 0];
+    checks.equal("time shares", charged_alone(cent, &days, &[1]), shares);
+    // Each is the last number that is not above the exact share.
+    let all = charged_alone(cent, &(1..=366).collect::<Vec<u64>>(), &[1]);
+    let is_last = |(share, left): (&u64, u64)| share * 365 <= 10_000 * left && 10_000 * left < (share + 1) * 365;
+    checks.equal("every time share", all.iter().zip((0..=365).rev()).filter(|found| is_last(*found)).count(), 366);
+    let premium = "(cat (band 0 1) (deduct 0) (back 1 10000 10000) (placed 10000))\n";
+    checks.equal("without (time)", charged_alone(premium, &[1, 100, 366], &[1]), vec![10_000; 3]);
+}
+
+/// Premium by amount and time, worked out by hand.
+fn by_time(checks: &mut Checks) {
+    let (cat, risk) = (timed_layer("cat"), timed_layer("risk"));
+    // 182,500; 182,500 x 4,986 / 10,000 = 90,994.5; 0.
+    checks.equal("one loss", charged_alone(&cat, &[1, 184, 366], &[500_000]), vec![182_500, 90_995, 0]);
+    // 182,500 x 7,287 / 10,000 = 132,987.75; 182,500 x 4,547 / 10,000 = 82,982.75.
+    let two = [dated(100, &[500_000]), dated(200, &[500_000])];
+    checks.equal("two events", charged(&cat, &two), vec![132_988, 82_983]);
+    checks.equal("their layer", column(&program(&cat, &two.concat()), "(layer", "premium"), vec![215_971]);
+    checks.equal("their total", column(&program(&cat, &two.concat()), "(total", "premium"), vec![215_971]);
+    // One loss of the event, 365,000 x 7,287 / 10,000 = 265,975.5, and 365,000 x 4,986 / 10,000 = 181,989.
+    let both = [500_000, 500_000];
+    checks.equal("cat layer, two losses", charged_alone(&cat, &[100, 184], &both), vec![265_976, 181_989]);
+    // Two losses of the event, each as above: 132,988 twice, 90,995 twice.
+    checks.equal("risk layer, two losses", charged_alone(&risk, &[100, 184], &both), vec![265_976, 181_990]);
+    // The limit is reinstated once: a third loss has no amount premium.
+    checks.equal("past the last", charged_alone(&risk, &[100], &[500_000, 500_000, 500_000]), vec![265_976]);
+    // Brought are 600, 1,000 and 300, used 550, 1,550 and 1,850; recovered 183, 517 and 617, by slices 183; 333 and
+    // 184; 333 and 284. The year's amount premiums are 91.41, 393.25 and 516.58, the losses' 91, 302 and 124. At
+    // 1,178 they come to 10.72, 35.58 and 14.61, together 60.90; at 4,547 to 41.38, 137.32 and 56.38, together 235.08.
+    let slices = "(risk (band 100 1000) (deduct 50) (back 2 999 5000 12345) (placed 3333) (time))\n";
+    let losses = [700, 1_500, 400];
+    checks.equal("three losses", charged_alone(slices, &[323, 200], &losses), vec![11 + 36 + 15, 41 + 137 + 56]);
+    let apart = losses.map(|loss| dated(323, &[loss]));
+    checks.equal("in three events", charged(slices, &apart), vec![11, 36, 15]);
+    // With the first two changed about, used are 950, 1,550 and 1,850, and the first slice is 317 after the first. The
+    // losses' amount premiums are 158, 235 and 124, at 4,547 71.84, 106.85 and 56.38.
+    checks.equal("changed about", charged_alone(slices, &[200], &[1_500, 700, 400]), vec![72 + 107 + 56]);
+    let none = "(cat (band 0 9) (deduct 0) (back 0 7) (placed 1) (time))\n";
+    checks.equal("no reinstatement by time", charged_alone(none, &[1], &[9]), vec![0]);
+}
+
 fn band(attachment: u64, limit: u64) -> String {
     format!("(risk (band {attachment} {limit}) (deduct 0) (back 0 0) (placed 10000))\n")
 }
@@ -244,6 +312,40 @@ fn refused_rates(checks: &mut Checks) {
     }
 }
 
+/// A table of one layer with such words after its placed share.
+fn with_end(end: &str) -> String {
+    format!("(risk (band 30 70) (deduct 9) (back 1 500 7) (placed 7201){end}\n")
+}
+
+/// `(time)` is the last item, once, or is not there.
+fn refused_times(checks: &mut Checks) {
+    for end in [")", " (time))"] {
+        for table in [with_end(end), with_end(end).replace("risk", "cat"), with_end(end).replace("1 500 7", "0 0")] {
+            let written = read_table(table.as_bytes()).map(|programme| write_table(&programme));
+            checks.equal(end, written, Ok(table.into_bytes()));
+        }
+    }
+    let misspelt = [" (tim))", " (tine))", " (Time))", " (times))", " (time 1))", " (time 0))", " ())"];
+    let brackets = [" (time)", " (time", " (time)))", " time)", " time))", ") (time)"];
+    let spaces = ["(time))", "  (time))", " (time) )", " (time ))", " ( time))", " (time)\r)"];
+    for end in misspelt.into_iter().chain(brackets).chain(spaces).chain([" (time) (time))"]) {
+        checks.refused(end, &with_end(end), "", 2, 1);
+    }
+    let elsewhere = [
+        "(cat (band 30 70) (deduct 9) (back 1 500 7) (time) (placed 7201))\n",
+        "(cat (band 30 70) (deduct 9) (time) (back 1 500 7) (placed 7201))\n",
+        "(cat (time) (band 30 70) (deduct 9) (back 1 500 7) (placed 7201))\n",
+        "(cat (band 30 70) (deduct 9) (back 1 500 7 (time)) (placed 7201))\n",
+        "(quota 1 (cede 1) (capacity 1) (event 1) (time))\n",
+        "(surplus 1 (retain 1) (lines 1) (event 1) (time))\n",
+        "(time)\n",
+    ];
+    for table in elsewhere {
+        checks.refused(table, table, "", 2, 1);
+    }
+    checks.refused("a range after the form", &with_end(" (time))").replace("7201", "10001"), "", 3, 1);
+}
+
 fn refused_events(checks: &mut Checks) {
     let total = "(total (gross 0) (ceded 0) (risk 0) (cat 0) (net 0) (premium 0))\n";
     checks.equal("empty texts", program("", "").as_str(), total);
@@ -285,6 +387,32 @@ fn refused_records(checks: &mut Checks) {
     checks.equal("a missing layer's sum", run(&programme, &mut standing, b"x", &mut []), Err((8, 0)));
 }
 
+/// Timed premiums of standings: a layer by time, one by amount, and no third, in each tier.
+fn refused_timed(checks: &mut Checks) {
+    let tier = |name: &str| {
+        timed_layer(name) + &timed_layer(name).replace("band 0", "band 1000000").replace(" (time)", "")
+    };
+    let programme = read_table((tier("risk") + &tier("cat")).as_bytes()).unwrap();
+    let spent = [500_000, 500_000, 0, 0, 0, 0, 0, 0];
+    let with = |risk_timed: [u64; 8], cat_timed: [u64; 8]| {
+        take_over(&programme, &Spent { risk: spent, cat: spent, day: 9, risk_timed, cat_timed })
+    };
+    let at = |place: usize, amount: u64| std::array::from_fn(|other| if other == place { amount } else { 0 });
+    checks.equal("each timed premium at its most", with(at(0, 182_500), at(0, 182_500)).is_ok(), true);
+    checks.equal("no timed premium", with([0; 8], [0; 8]).is_ok(), true);
+    for (name, place, amount) in [("one above", 0, 182_501), ("by amount", 1, 1), ("missing", 2, 1), ("last", 7, 1)] {
+        checks.equal(name, with(at(place, amount), [0; 8]), Err((8, 0)));
+        checks.equal(name, with([0; 8], at(place, amount)), Err((8, 0)));
+    }
+    // The premium of the layer's line is the standing's and the loss's, 90,995, whatever its amount premium is.
+    let mut standing = with([0; 8], at(0, 7)).unwrap();
+    let mut buffer = [0; 2_000];
+    let length = run(&programme, &mut standing, dated(184, &[500_000]).as_bytes(), &mut buffer).unwrap();
+    let statement = String::from_utf8(buffer[..length].to_vec()).unwrap();
+    checks.equal("after a standing", column(&statement, "(layer", "premium"), vec![90_995, 182_500, 7, 182_500]);
+    checks.equal("what it leaves", (standing.risk_timed[0], standing.cat_timed[0]), (90_995, 7));
+}
+
 /// Runs the texts one after the other; each answer is the statement or the refusal.
 fn history(programme: &Programme, texts: &[&str]) -> (Standing, Vec<Result<String, Refusal>>) {
     let mut standing = open(programme).unwrap();
@@ -314,17 +442,36 @@ fn histories(checks: &mut Checks) {
     checks.equal("layer lines of the last run", select(&texts[3], "(layer"), select(&whole_text, "(layer"));
 }
 
+/// A layer by time over several runs has the ledger of one run; a refused run charges nothing.
+fn timed_histories(checks: &mut Checks) {
+    let programme = read_table(timed_layer("cat").as_bytes()).unwrap();
+    let lines = [dated(100, &[300_000, 200_000]), dated(184, &[500_000]), dated(366, &[500_000])];
+    let (whole, _) = history(&programme, &[&lines.concat()]);
+    let (parts, answers) = history(&programme, &[&lines[0], "(event 99)\n", &lines[1], "", &lines[2]]);
+    checks.equal("timed premium after runs", parts.cat_timed[0], 132_988 + 90_995);
+    checks.equal("timed standing after runs", parts, whole);
+    checks.equal("a refused run between", answers[1].clone(), Err((13, 1)));
+    let premiums: Vec<u64> =
+        answers.iter().flatten().flat_map(|statement| column(statement, "(layer", "premium")).collect();
+    checks.equal("layer lines of the runs", premiums, vec![132_988, 223_983, 223_983, 223_983]);
+}
+
 fn main() {
     let mut checks = Checks { made: 0, failed: 0 };
     treaties(&mut checks);
     layers(&mut checks);
     nearest_cents(&mut checks);
     rates(&mut checks);
+    time_shares(&mut checks);
+    by_time(&mut checks);
     refused_tables(&mut checks);
     refused_rates(&mut checks);
+    refused_times(&mut checks);
     refused_events(&mut checks);
     refused_records(&mut checks);
+    refused_timed(&mut checks);
     histories(&mut checks);
+    timed_histories(&mut checks);
     println!("figures: {} compared, {} differ", checks.made, checks.failed);
     std::process::exit(i32::from(checks.failed > 0));
 }

@@ -86,64 +86,101 @@ impl Layer {
         Exact::new(rated, u128::from(self.premium), WHOLE * self.limit)
     }
 
-    fn reinstatement_premium(&self, sum: u128) -> u64 {
+    /// The year's amount premium.
+    pub fn amount_premium(&self, sum: u128) -> u64 {
         self.exact_premium(self.used(sum)).nearest()
+    }
+
+    /// The most that can have been charged by amount and time: nothing where premium is by amount alone.
+    pub fn most_timed(&self, sum: u128) -> u64 {
+        if self.is_timed {
+            self.amount_premium(sum)
+        } else {
+            0
+        }
+    }
+
+    /// The premium for one loss, whose amount premium this is, on a day with such a time share.
+    pub fn exactly_due(&self, amount_premium: u64, share: u64) -> Exact {
+        let share = if self.is_timed { share } else { WHOLE };
+        Exact::new(amount_premium, u128::from(share), WHOLE)
     }
 }
 
-/// A layer's sum in a run, with the year's figures from that sum.
+/// A layer in a run: its sum of losses, the year's figures from that sum, and the premium that they were charged.
 pub struct Account<'a> {
     pub layer: &'a Layer,
     pub sum: u128,
     pub recovered: u64,
     kept: u128,
+    amount_premium: u64,
     pub premium: u64,
-    charged_sum: u128,
+    /// The amount premium of each loss that is charged by time, in turn.
+    pub by_time: Vec<u64>,
+}
+
+/// What becomes of an amount: what layers pay, what the insurer keeps, and what premium is charged.
+#[derive(Default)]
+pub struct Borne {
+    pub paid: u64,
+    pub kept: u64,
+    pub premium: u64,
 }
 
 impl<'a> Account<'a> {
-    fn new(layer: &'a Layer, sum: u128) -> Self {
+    fn new(layer: &'a Layer, sum: u128, timed: u64) -> Self {
+        let amount_premium = layer.amount_premium(sum);
         Account {
             layer,
             sum,
             recovered: layer.recovered(sum),
             kept: layer.kept(sum),
-            premium: layer.reinstatement_premium(sum),
-            charged_sum: sum,
+            amount_premium,
+            premium: if layer.is_timed { timed } else { amount_premium },
+            by_time: Vec::new(),
         }
     }
 
-    /// Brings the layer a loss; gives what is recovered and what is kept of it.
-    fn bring(&mut self, loss: u64) -> (u64, u64) {
+    /// The premium charged by amount and time.
+    pub fn timed(&self) -> u64 {
+        if self.layer.is_timed {
+            self.premium
+        } else {
+            0
+        }
+    }
+
+    /// Brings the layer a loss on a day with such a time share.
+    fn bring(&mut self, loss: u64, share: u64) -> Borne {
         let (recovered, kept) = (self.recovered, self.kept);
         self.sum += u128::from(loss);
         self.recovered = self.layer.recovered(self.sum);
         self.kept = self.layer.kept(self.sum);
-        (self.recovered - recovered, (self.kept - kept) as u64)
+        Borne { paid: self.recovered - recovered, kept: (self.kept - kept) as u64, premium: self.charge(share) }
     }
 
-    /// The reinstatement premium for the losses brought since it was last charged: the sum of each loss's premium is
-    /// the year's figure after the last less the figure before the first.
-    pub fn charge(&mut self) -> u64 {
-        if self.sum == self.charged_sum {
-            return 0;
+    /// The premium for the loss that was brought last.
+    fn charge(&mut self, share: u64) -> u64 {
+        let before = self.amount_premium;
+        self.amount_premium = self.layer.amount_premium(self.sum);
+        let amount_premium = self.amount_premium - before;
+        let premium = self.layer.exactly_due(amount_premium, share).nearest();
+        self.premium += premium;
+        if self.layer.is_timed {
+            self.by_time.push(amount_premium);
         }
-        let before = self.premium;
-        self.premium = self.layer.reinstatement_premium(self.sum);
-        self.charged_sum = self.sum;
-        self.premium - before
+        premium
     }
 }
 
-pub fn accounts<'a>(tier: &'a [Layer], sums: &[u128]) -> Vec<Account<'a>> {
-    tier.iter().zip(sums).map(|(layer, sum)| Account::new(layer, *sum)).collect()
+pub fn accounts<'a>(tier: &'a [Layer], sums: &[u128], timed: &[u64]) -> Vec<Account<'a>> {
+    tier.iter().zip(sums).zip(timed).map(|((layer, sum), timed)| Account::new(layer, *sum, *timed)).collect()
 }
 
-/// Takes one subject amount through a tier; gives what its layers pay and what the insurer keeps: the parts outside
-/// the bands and what it keeps inside each.
-pub fn through(tier: &mut [Account], subject: u64) -> (u64, u64) {
-    let mut paid = 0;
-    let mut kept = 0;
+/// Takes one subject amount through a tier on a day with such a time share. What the insurer keeps are the parts
+/// outside the bands and what it keeps inside each.
+pub fn through(tier: &mut [Account], subject: u64, share: u64) -> Borne {
+    let mut borne = Borne::default();
     let mut reached = 0;
     for account in tier {
         let Layer { attachment, limit, .. } = *account.layer;
@@ -151,10 +188,12 @@ pub fn through(tier: &mut [Account], subject: u64) -> (u64, u64) {
             break;
         }
         let end = subject.min(attachment + limit);
-        let (recovered, inside) = account.bring(end - attachment);
-        kept += attachment - reached + inside;
-        paid += recovered;
+        let inside = account.bring(end - attachment, share);
+        borne.paid += inside.paid;
+        borne.kept += attachment - reached + inside.kept;
+        borne.premium += inside.premium;
         reached = end;
     }
-    (paid, kept + subject - reached)
+    borne.kept += subject - reached;
+    borne
 }

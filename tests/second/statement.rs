@@ -1,8 +1,9 @@
 //! A run of events that were read: event by event through treaties and layers, and the statement's text.
 
-use super::events::{Event, Loss};
+use super::events::Event;
 use super::formulas::{accounts, through, Account};
-use super::table::{Programme, MOST_TREATIES};
+use super::table::{Layer, Programme, MOST_TREATIES};
+use super::time::share_of;
 use super::Standing;
 
 #[derive(Clone, Copy, Default)]
@@ -26,6 +27,16 @@ impl Amounts {
     }
 }
 
+/// The amount premiums of an event's losses, in turn, on a layer that charges them by time.
+#[allow(dead_code)] // the random years and histories count them
+pub struct Charges<'a> {
+    pub layer: &'a Layer,
+    pub is_risk: bool,
+    pub day: u64,
+    pub share: u64,
+    pub amount_premiums: Vec<u64>,
+}
+
 /// A run under way.
 pub struct Run<'a> {
     programme: &'a Programme,
@@ -39,16 +50,17 @@ impl<'a> Run<'a> {
         Run {
             programme,
             ceded: vec![0; programme.treaties.len()],
-            risk: accounts(&programme.risk, &standing.risk),
-            cat: accounts(&programme.cat, &standing.cat),
+            risk: accounts(&programme.risk, &standing.risk, &standing.risk_timed),
+            cat: accounts(&programme.cat, &standing.cat, &standing.cat_timed),
         }
     }
 
-    fn event(&mut self, losses: &[Loss]) -> Amounts {
+    fn event(&mut self, event: &Event) -> Amounts {
         let mut amounts = Amounts::default();
         let mut offered = [0; MOST_TREATIES as usize];
         let mut subject = 0;
-        for loss in losses {
+        let share = share_of(event.day);
+        for loss in &event.losses {
             let mut left = loss.amount;
             if let Some(place) = self.programme.treaty(loss.treaty) {
                 let treaty = &self.programme.treaties[place];
@@ -59,13 +71,15 @@ impl<'a> Run<'a> {
                 amounts.ceded += ceded;
                 left -= ceded;
             }
-            let (recovered, kept) = through(&mut self.risk, left);
+            let risk = through(&mut self.risk, left, share);
             amounts.gross += loss.amount;
-            amounts.risk += recovered;
-            subject += kept;
+            amounts.risk += risk.paid;
+            amounts.premium += risk.premium;
+            subject += risk.kept;
         }
-        (amounts.cat, amounts.net) = through(&mut self.cat, subject);
-        amounts.premium = self.risk.iter_mut().chain(&mut self.cat).map(Account::charge).sum();
+        let cat = through(&mut self.cat, subject, share);
+        (amounts.cat, amounts.net) = (cat.paid, cat.kept);
+        amounts.premium += cat.premium;
         debug_assert_eq!(amounts.gross, amounts.net + amounts.ceded + amounts.risk + amounts.cat);
         amounts
     }
@@ -74,7 +88,7 @@ impl<'a> Run<'a> {
         let mut text = Text(Vec::with_capacity(128 * (events.len() + 32)));
         let mut total = Amounts::default();
         for event in events {
-            let amounts = self.event(&event.losses);
+            let amounts = self.event(event);
             total.add(&amounts);
             text.word("(event ");
             text.number(event.day);
@@ -94,13 +108,28 @@ impl<'a> Run<'a> {
 
     pub fn standing(&self, day: u64) -> Standing {
         let mut standing = Standing { day, ..Standing::default() };
-        for (sum, account) in standing.risk.iter_mut().zip(&self.risk) {
-            *sum = account.sum;
+        for (place, account) in self.risk.iter().enumerate() {
+            (standing.risk[place], standing.risk_timed[place]) = (account.sum, account.timed());
         }
-        for (sum, account) in standing.cat.iter_mut().zip(&self.cat) {
-            *sum = account.sum;
+        for (place, account) in self.cat.iter().enumerate() {
+            (standing.cat[place], standing.cat_timed[place]) = (account.sum, account.timed());
         }
         standing
+    }
+
+    /// Takes an event's losses through the layers; gives what those were brought that charge by time.
+    pub fn charges(&mut self, event: &Event) -> Vec<Charges<'a>> {
+        self.event(event);
+        let risk = self.risk.iter_mut().map(|account| (true, account));
+        let cat = self.cat.iter_mut().map(|account| (false, account));
+        let charges = risk.chain(cat).map(|(is_risk, account)| Charges {
+            layer: account.layer,
+            is_risk,
+            day: event.day,
+            share: share_of(event.day),
+            amount_premiums: std::mem::take(&mut account.by_time),
+        });
+        charges.filter(|charges| !charges.amount_premiums.is_empty()).collect()
     }
 }
 

@@ -13,9 +13,10 @@ pub const LARGEST_RATE: u64 = 20_000;
 
 const QUOTA: &str = "(quota # (cede #) (capacity #) (event #))";
 const SURPLUS: &str = "(surplus # (retain #) (lines #) (event #))";
-/// A layer's line after its tier, up to its rates, and after them.
+/// A layer's line after its tier, up to its rates, and after them; before its last bracket may stand `TIME`.
 const LAYER: &str = " (band # #) (deduct #) (back # #";
-const PLACED: &str = ") (placed #))";
+const PLACED: &str = ") (placed #)";
+const TIME: &str = " (time)";
 
 #[derive(Clone, Debug, PartialEq, Eq)]
 pub enum Terms {
@@ -39,6 +40,8 @@ pub struct Layer {
     /// One for each reinstatement, in the order in which they are used.
     pub rates: Vec<u64>,
     pub placed: u64,
+    /// Whether premium is by amount and time.
+    pub is_timed: bool,
 }
 
 #[derive(Clone, Debug, Default, PartialEq, Eq)]
@@ -68,8 +71,10 @@ fn layer_of(rest: &mut &[u8]) -> Option<Layer> {
     let [attachment, limit, deductible, reinstatements, premium] = numbers(LAYER, rest)?;
     let rates = rates(rest)?;
     let [placed] = numbers(PLACED, rest)?;
+    let is_timed = word(rest, TIME.as_bytes()).is_some();
+    word(rest, b")")?;
     let is_of_form = rates.len() as u64 == reinstatements;
-    is_of_form.then_some(Layer { attachment, limit, deductible, premium, rates, placed })
+    is_of_form.then_some(Layer { attachment, limit, deductible, premium, rates, placed, is_timed })
 }
 
 /// Takes a contract off the front.
@@ -192,10 +197,11 @@ fn treaty_line(treaty: &Treaty) -> String {
 }
 
 fn layer_line(tier: &str, layer: &Layer) -> String {
-    let Layer { attachment, limit, deductible, premium, rates, placed } = layer;
+    let Layer { attachment, limit, deductible, premium, rates, placed, is_timed } = layer;
     let listed: String = rates.iter().map(|rate| format!(" {rate}")).collect();
     let back = format!("(back {} {premium}{listed})", rates.len());
-    format!("({tier} (band {attachment} {limit}) (deduct {deductible}) {back} (placed {placed}))\n")
+    let time = if *is_timed { TIME } else { "" };
+    format!("({tier} (band {attachment} {limit}) (deduct {deductible}) {back} (placed {placed}){time})\n")
 }
 
 /// Writes a programme as a table text.

@@ -145,10 +145,29 @@ fn premium(random: &mut Random, limit: u64) -> u64 {
     premium.min(LARGEST_PREMIUM)
 }
 
+/// Premium and rates of so many reinstatements. Of layers with `(time)` some charge 5,000 cents for every cent of the
+/// limit, of which odd time shares make half cents.
+fn charged(random: &mut Random, limit: u64, count: u64, is_timed: bool) -> (u64, Vec<u64>) {
+    if is_timed && limit <= LARGEST_PREMIUM / 5_000 && random.one_in(3) {
+        return (5_000 * limit, vec![10_000; count as usize]);
+    }
+    let rates = rates(random, count);
+    (premium(random, limit), rates)
+}
+
 /// Reinstatements, premium and rates, as a layer's line has them.
 pub fn back(premium: u64, rates: &[u64]) -> String {
     let listed: String = rates.iter().map(|rate| format!(" {rate}")).collect();
     format!("(back {} {premium}{listed})", rates.len())
+}
+
+/// What stands after a layer's placed share: for one layer in so many, that premium is by amount and time.
+fn time(random: &mut Random, one_in: u64) -> &'static str {
+    if random.one_in(one_in) {
+        " (time)"
+    } else {
+        ""
+    }
 }
 
 fn layer(random: &mut Random, tier: &str, attachment: u64, limit: u64, table: &mut Table) {
@@ -156,11 +175,11 @@ fn layer(random: &mut Random, tier: &str, attachment: u64, limit: u64, table: &m
     let deductible = if random.one_in(40) { LARGEST_DEDUCTIBLE } else { deductible.min(LARGEST_DEDUCTIBLE) };
     let any = random.between(0, MOST_RATES);
     let count = random.pick(&[0, 1, 1, 2, 2, 3, MOST_RATES, MOST_RATES, any]);
-    let rates = rates(random, count);
-    let premium = premium(random, limit);
+    let time = time(random, 3);
+    let (premium, rates) = charged(random, limit, count, !time.is_empty());
     let placed = share(random);
     table.marks.extend([attachment, attachment + limit]);
-    let terms = format!("(deduct {deductible}) {} (placed {placed})", back(premium, &rates));
+    let terms = format!("(deduct {deductible}) {} (placed {placed}){time}", back(premium, &rates));
     table.lines.push(line(format!("({tier} (band {attachment} {limit}) {terms})")));
 }
 
@@ -235,24 +254,25 @@ pub fn events(random: &mut Random, scale: u64, table: &Table, count: usize, firs
         let count = random.pick(&[0, 1, 1, 2, 3, 5, 9, 20, 63, 64]);
         let losses = losses(random, scale, table, count);
         lines.push(line(format!("(event {day}{losses})")));
-        day = (day + random.pick(&[0, 0, 1, 7, 40])).min(366);
+        // After 73 days from day 1 a fifth of the year has gone: a time share that is not rounded.
+        day = (day + random.pick(&[0, 0, 1, 7, 40, 73])).min(366);
     }
     lines
 }
 
-/// An events text of so many bytes, nearly all of it in events of 64 losses on the year's last day.
-pub fn full_events(random: &mut Random, scale: u64, table: &Table, size: usize) -> Vec<u8> {
+/// An events text of so many bytes, nearly all of it in events of 64 losses, on a day of three digits.
+pub fn full_events(random: &mut Random, scale: u64, table: &Table, size: usize, day: u64) -> Vec<u8> {
     let mut events = Vec::new();
     while events.len() + 3_000 < size {
         let losses = losses(random, scale, table, 64);
-        events.extend(line(format!("(event 366{losses})")));
+        events.extend(line(format!("(event {day}{losses})")));
     }
     while events.len() + 51 < size {
-        events.extend(b"(event 366)\n");
+        events.extend(line(format!("(event {day})")));
     }
     let digits = (size - events.len() - 23) as u32;
     let (most, loss) = (10_u64.pow(digits / 2 - 1), 10_u64.pow(digits - digits / 2 - 1));
-    events.extend(line(format!("(event 366 (loss 0 {most} {loss}))")));
+    events.extend(line(format!("(event {day} (loss 0 {most} {loss}))")));
     events
 }
 
@@ -270,7 +290,8 @@ pub fn largest_table(random: &mut Random) -> Table {
         let rates: Vec<u64> = (0..count).map(|_| random.pick(&[LARGEST_RATE - 1, LARGEST_RATE])).collect();
         let premium = random.pick(&[LARGEST_PREMIUM - 1, LARGEST_PREMIUM]);
         let placed = random.pick(&[9_999, 10_000]);
-        let terms = format!("(deduct {deductible}) {} (placed {placed})", back(premium, &rates));
+        let time = time(random, 2);
+        let terms = format!("(deduct {deductible}) {} (placed {placed}){time}", back(premium, &rates));
         table.lines.push(line(format!("({tier} (band {attachment} {limit}) {terms})")));
     }
     table

@@ -3,15 +3,24 @@
 use crate::calculation::events::{read_events, Loss};
 use crate::calculation::exact::Exact;
 use crate::calculation::table::{Layer, Programme, Terms};
+use crate::calculation::Charges;
 use crate::totals::numbers;
 use std::cmp::Ordering;
 
-const FORMULAS: [&str; 6] =
-    ["quota share", "quota share by capacity", "surplus", "surplus by lines", "placed share", "premium"];
+const FORMULAS: [&str; 7] = [
+    "quota share",
+    "quota share by capacity",
+    "surplus",
+    "surplus by lines",
+    "placed share",
+    "premium",
+    "premium by time",
+];
 
 /// The places of the layers' formulas; `of_treaty` gives those of the treaties'.
 const PLACED_SHARE: usize = 4;
 const PREMIUM: usize = 5;
+const BY_TIME: usize = 6;
 
 /// Whole cents, less than half a cent more, a half, or more than that.
 const WAYS: [&str; 4] = ["whole", "below a half", "a half", "above a half"];
@@ -21,9 +30,9 @@ const WAYS: [&str; 4] = ["whole", "below a half", "a half", "above a half"];
 pub struct Roundings([[usize; WAYS.len()]; FORMULAS.len()]);
 
 impl Roundings {
-    /// Counts the cessions of a text that was accepted, without event limits, and the year's figures of the layers in
-    /// its statement.
-    pub fn count(&mut self, programme: &Programme, events: &[u8], statement: &[u8]) {
+    /// Counts the cessions of a text that was accepted, without event limits, the year's figures of the layers in its
+    /// statement, and what its losses are charged by time.
+    pub fn count(&mut self, programme: &Programme, events: &[u8], statement: &[u8], charges: &[Charges]) {
         for event in read_events(programme, 0, events).unwrap_or_default() {
             for loss in &event.losses {
                 let Some(place) = programme.treaty(loss.treaty) else { continue };
@@ -35,6 +44,11 @@ impl Roundings {
         let lines = statement.lines().filter(|line| line.starts_with("(layer"));
         for (layer, line) in programme.risk.iter().chain(&programme.cat).zip(lines) {
             self.count_layer(layer, numbers(line)[2]);
+        }
+        for Charges { layer, share, amount_premiums, .. } in charges {
+            for amount_premium in amount_premiums {
+                self.add(BY_TIME, &layer.exactly_due(*amount_premium, *share));
+            }
         }
     }
 

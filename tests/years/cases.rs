@@ -6,7 +6,7 @@ use crate::damage::{self, Fault, NEARLY_FEEDS};
 use crate::draw::{self, line, Lines, Table, LARGEST_RATE, MOST_RATES};
 use crate::printed::printed;
 use crate::random::Random;
-use crate::table_damage::{self, MISPLACED, MISRATED};
+use crate::table_damage::{self, MISPLACED, MISRATED, MISTIMED};
 use crate::totals::{has_all, totals};
 
 /// What stands under the name programme.txt.
@@ -48,7 +48,7 @@ const FORMS: [&str; 5] = [
     "(quota 3 (cede 4000) (capacity 20000) (event 15000))",
     "(surplus 3 (retain 10000) (lines 3) (event 30000))",
     "(risk (band 500 1000) (deduct 300) (back 2 250 0 10000) (placed 7200))",
-    "(cat (band 2000 9000) (deduct 100) (back 3 777 5000 1 12345) (placed 3333))",
+    "(cat (band 2000 9000) (deduct 100) (back 3 777 5000 1 12345) (placed 3333) (time))",
     "(event 40 (loss 3 12000 11000))",
 ];
 
@@ -124,6 +124,7 @@ impl Cases {
             29 => self.misended(false),
             30 => self.misended(true),
             31 => self.misrated(),
+            32 => self.mistimed(),
             _ => self.year(),
         }
     }
@@ -135,7 +136,7 @@ impl Cases {
     fn draw(&mut self, events: usize) -> (Table, Lines) {
         let scale = self.scale();
         let table = draw::table(&mut self.random, scale);
-        let first_day = self.random.pick(&[1, 30, 90, 365, 366]);
+        let first_day = self.random.pick(&[1, 30, 90, 147, 365, 366]);
         let events = draw::events(&mut self.random, scale, &table, events, first_day);
         (table, events)
     }
@@ -164,6 +165,7 @@ impl Cases {
             table_damage::order,
             table_damage::band,
             table_damage::rates,
+            table_damage::time,
             damage::bytes,
         ];
         self.damage(&mut lines, fault, &others);
@@ -187,6 +189,14 @@ impl Cases {
         let (table, events) = self.draw(2);
         let mut lines = table.lines;
         table_damage::misrate(&mut self.random, &mut lines, self.round % MISRATED.len());
+        text_case(&lines, &events)
+    }
+
+    /// A table with `(time)` out of its form, and no other fault; each way in turn.
+    fn mistimed(&mut self) -> Case {
+        let (table, events) = self.draw(2);
+        let mut lines = table.lines;
+        table_damage::mistime(&mut self.random, &mut lines, self.round % MISTIMED.len());
         text_case(&lines, &events)
     }
 
@@ -255,7 +265,8 @@ impl Cases {
         let scale = self.scale();
         let table = draw::table(&mut self.random, scale);
         let size = EVENTS_BYTES - 1 + self.round % 3;
-        let mut events = draw::full_events(&mut self.random, scale, &table, size);
+        let day = self.random.between(100, 366);
+        let mut events = draw::full_events(&mut self.random, scale, &table, size, day);
         if self.random.one_in(5) {
             events[0] = b'x';
         }

@@ -25,6 +25,8 @@ mod roundings;
 mod show;
 mod table_damage;
 mod tally;
+#[path = "../shared/times.rs"]
+mod times;
 #[path = "../shared/totals.rs"]
 mod totals;
 

@@ -26,6 +26,18 @@ pub const MISRATED: [(&str, u64); 5] = [
     ("a rate too large", 3),
 ];
 
+/// What can be wrong with `(time)`, each refused with 2.
+pub const MISTIMED: [&str; 6] =
+    ["misspelt", "twice", "other brackets", "other spaces", "before the placed share", "on a treaty"];
+
+/// The first of these as they can stand after a layer's placed share.
+const MISTIMED_ENDS: [&[&str]; 4] = [
+    &[" (tim))", " (tine))", " (Time))", " (times))", " (time 1))", " (time 0))", " ())"],
+    &[" (time) (time))"],
+    &[" (time)", " (time", " (time)))", " time))", " time)", ") (time)"],
+    &["(time))", "  (time))", " (time) )", " (time ))", " ( time))", " (time)\r)"],
+];
+
 /// The kind of a line by its first word, if it has one.
 pub fn kind_of(line: &[u8]) -> Option<Kind> {
     match line.split(|byte| *byte == b' ').next() {
@@ -142,18 +154,24 @@ pub fn misrated(line: &[u8], refusal: u64) -> Option<usize> {
     (MISRATED[place].1 == refusal).then_some(place)
 }
 
-/// Refusals 2 and 3: something wrong with the K and the rates of a layer. A table without a layer is given one.
-pub fn misrate(random: &mut Random, lines: &mut Lines, wrong: usize) {
+/// The place of some layer's line. A table without a layer is given one.
+fn some_layer(random: &mut Random, lines: &mut Lines) -> usize {
     if !lines.iter().any(|line| is_layer(line)) {
         lines.push(plain(Kind::Cat));
     }
     let places: Vec<usize> = (0..lines.len()).filter(|place| is_layer(&lines[*place])).collect();
-    let line = &mut lines[random.pick(&places)];
+    random.pick(&places)
+}
+
+/// Refusals 2 and 3: something wrong with the K and the rates of a layer. A table without a layer is given one.
+pub fn misrate(random: &mut Random, lines: &mut Lines, wrong: usize) {
+    let place = some_layer(random, lines);
+    let line = &mut lines[place];
     let Some((count, _, rates)) = back_of(line) else { return };
     let rate = random.pick(&[0, 1, 7_201, LARGEST_RATE]);
     let some = [rates.clone(), vec![rate]].concat();
     let (count, rates) = match wrong {
-        0 if count == 0 => (random.pick(&[1, MOST_RATES]), rates),
+        0 if rates.is_empty() => (random.pick(&[1, MOST_RATES]), rates),
         0 => (count, rates[random.place(rates.len())..].iter().skip(1).copied().collect()),
         1 if count > 0 && random.one_in(2) => (random.between(0, count - 1), rates),
         1 => (count, some),
@@ -176,6 +194,65 @@ pub fn misrate(random: &mut Random, lines: &mut Lines, wrong: usize) {
 pub fn rates(random: &mut Random, lines: &mut Lines, _: usize) {
     let wrong = random.place(MISRATED.len());
     misrate(random, lines, wrong);
+}
+
+/// Where the item of a layer's placed share begins and ends in its line.
+fn placed_place(line: &[u8]) -> Option<(usize, usize)> {
+    let begin = line.windows(8).position(|bytes| bytes == b"(placed ")?;
+    let length = line[begin..].iter().position(|byte| *byte == b')')? + 1;
+    Some((begin, begin + length))
+}
+
+/// Puts these words after a layer's placed share, up to the line feed.
+fn set_end(line: &mut Vec<u8>, end: &str) {
+    if let Some((_, placed)) = placed_place(line) {
+        line.splice(placed.., end.bytes().chain([b'\n']));
+    }
+}
+
+/// Which of these is wrong with `(time)` in the line at fault, if one is.
+pub fn mistimed(line: &[u8]) -> Option<usize> {
+    if kind_of(line) == Some(Kind::Treaty) {
+        return line.ends_with(b" (time))").then_some(5);
+    }
+    let (begin, end) = placed_place(line)?;
+    if line[..begin].ends_with(b"(time) ") {
+        return Some(4);
+    }
+    MISTIMED_ENDS.iter().position(|ends| ends.iter().any(|words| line[end..] == *words.as_bytes()))
+}
+
+/// Refusal 2: something wrong with `(time)` of a layer or of a treaty. A table without one is given one.
+pub fn mistime(random: &mut Random, lines: &mut Lines, wrong: usize) {
+    if wrong == 5 {
+        return mistime_treaty(random, lines);
+    }
+    let place = some_layer(random, lines);
+    let line = &mut lines[place];
+    match MISTIMED_ENDS.get(wrong) {
+        Some(ends) => set_end(line, random.pick(ends)),
+        None => {
+            set_end(line, ")");
+            let placed = placed_place(line).map_or(0, |(begin, _)| begin);
+            line.splice(placed..placed, *b"(time) ");
+        }
+    }
+}
+
+fn mistime_treaty(random: &mut Random, lines: &mut Lines) {
+    if !lines.iter().any(|line| kind_of(line) == Some(Kind::Treaty)) {
+        lines.insert(0, plain(Kind::Treaty));
+    }
+    let count = lines.iter().filter(|line| kind_of(line) == Some(Kind::Treaty)).count();
+    let line = &mut lines[random.place(count)];
+    let end = line.len().saturating_sub(2);
+    line.splice(end..end, *b" (time)");
+}
+
+/// The same as one fault among others.
+pub fn time(random: &mut Random, lines: &mut Lines, _: usize) {
+    let wrong = random.place(MISTIMED.len());
+    mistime(random, lines, wrong);
 }
 
 /// Two faults on one line of a table, where the lower refusal decides.

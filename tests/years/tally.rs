@@ -1,11 +1,12 @@
 //! What the years compared so far have reached.
 
-use crate::calculation::read_table;
+use crate::calculation::{charges, read_table, Standing};
 use crate::feeds::Feeds;
 use crate::limits::Limits;
 use crate::rates::Rates;
 use crate::roundings::Roundings;
-use crate::table_damage::{kind_of, misrated, MISPLACED, MISRATED};
+use crate::table_damage::{kind_of, misrated, mistimed, MISPLACED, MISRATED, MISTIMED};
+use crate::times::Times;
 use crate::totals::{has_all, numbers, totals};
 use std::collections::BTreeMap;
 
@@ -13,7 +14,7 @@ use std::collections::BTreeMap;
 const REFUSALS: [u64; 13] = [0, 1, 2, 3, 4, 5, 7, 9, 10, 11, 12, 13, 14];
 
 /// Of a hundred years, how many have cessions, recoveries of both tiers and premium.
-const LEAST_FULL_YEARS: usize = 40;
+const LEAST_FULL_YEARS: usize = 36;
 
 /// For a hundred years, how often an event limit is met in each way.
 const LEAST_LIMITS: usize = 10;
@@ -30,6 +31,8 @@ pub struct Tally {
     misplaced: [usize; MISPLACED.len()],
     /// Tables refused with 2 or 3 for a layer's K or rates, by what is wrong with them.
     misrated: [usize; MISRATED.len()],
+    /// Tables refused with 2 for `(time)`, by what is wrong with it.
+    mistimed: [usize; MISTIMED.len()],
     ceded: usize,
     risk: usize,
     cat: usize,
@@ -38,6 +41,7 @@ pub struct Tally {
     limits: Limits,
     roundings: Roundings,
     rates: Rates,
+    times: Times,
     table_feeds: Feeds,
     events_feeds: Feeds,
 }
@@ -62,9 +66,11 @@ impl Tally {
         self.table_feeds.count(table, None);
         self.events_feeds.count(events, None);
         if let Ok(programme) = read_table(table) {
+            let charges = charges(&programme, &Standing::default(), events);
             self.limits.count(&programme, events);
-            self.roundings.count(&programme, events, printed);
+            self.roundings.count(&programme, events, printed, &charges);
             self.rates.count(&programme, printed);
+            self.times.count(&charges);
         }
         self.accepted += 1;
         self.ceded += usize::from(amounts[1] > 0);
@@ -82,7 +88,12 @@ impl Tally {
             self.misrated[wrong] += 1;
         }
         match refusal {
-            2 => self.table_feeds.count(table, Some(second as usize)),
+            2 => {
+                self.table_feeds.count(table, Some(second as usize));
+                if let Some(wrong) = line_at(table, second).and_then(mistimed) {
+                    self.mistimed[wrong] += 1;
+                }
+            }
             4 => self.count_misplaced(table, second as usize),
             10 => self.events_feeds.count(events, Some(second as usize)),
             _ => {}
@@ -109,9 +120,12 @@ impl Tally {
         println!("years: out of order: {}", counts.collect::<Vec<String>>().join(", "));
         let counts = MISRATED.iter().zip(self.misrated).map(|((name, _), count)| format!("{name} {count}"));
         println!("years: refused rates: {}", counts.collect::<Vec<String>>().join(", "));
+        let counts = MISTIMED.iter().zip(self.mistimed).map(|(name, count)| format!("{name} {count}"));
+        println!("years: refused times: {}", counts.collect::<Vec<String>>().join(", "));
         println!("years: {}", self.limits.shown());
         println!("years: {}", self.roundings.shown());
         println!("years: {}", self.rates.shown());
+        println!("years: {}", self.times.shown());
         println!("years: tables: {}", self.table_feeds.shown());
         println!("years: events: {}", self.events_feeds.shown());
     }
@@ -124,12 +138,15 @@ impl Tally {
         missing.extend(unplaced.map(|(name, _)| format!("no table with a {name}")));
         let unseen = MISRATED.iter().zip(self.misrated).filter(|(_, count)| *count == 0);
         missing.extend(unseen.map(|((name, refusal), _)| format!("no table refused with {refusal} for {name}")));
+        let unseen = MISTIMED.iter().zip(self.mistimed).filter(|(_, count)| *count == 0);
+        missing.extend(unseen.map(|(name, _)| format!("no table refused with 2 for (time): {name}")));
         let limits = self.limits.counts().into_iter();
         let too_few = limits.filter(|(_, count)| count * 100 < self.compared * LEAST_LIMITS);
         missing.extend(too_few.map(|(name, count)| format!("event limits met: {name}: {count}, too few")));
         let too_few = self.roundings.counts().filter(|(_, count)| count * 100 < self.compared * LEAST_ROUNDINGS);
         missing.extend(too_few.map(|(name, count)| format!("rounded: {name}: {count}, too few")));
         missing.extend(self.rates.unmet().map(|name| format!("reinstated: none met: {name}")));
+        missing.extend(self.times.unmet().map(|name| format!("charged by time: none met: {name}")));
         missing.extend(self.table_feeds.unmet().map(|name| format!("line feeds of tables: none met: {name}")));
         missing.extend(self.events_feeds.unmet().map(|name| format!("line feeds of events: none met: {name}")));
         if self.all * 100 < self.compared * LEAST_FULL_YEARS {
