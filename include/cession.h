@@ -2,7 +2,8 @@
 //
 // The forms of a table, of an events text and of a statement, and every formula, are those of documents 01 and 02;
 // docs/GUIDE.md has an example of each. Amounts are whole cents. A share or a rate is in basis points (bp), 10,000 to
-// the whole. Every division is settled to the nearest cent, halves up, after the whole product has been formed.
+// the whole. Every division is settled to the nearest cent, halves up, after the whole product has been formed; a time
+// share alone is rounded down.
 //
 // What may be lent. No call asks anything of the values: every programme, standing, text and buffer is answered, with
 // a success or with a refusal. What a caller owes are the pointers:
@@ -19,8 +20,8 @@
 // Threads. A call is a pure function of what is lent to it; the library keeps no state and shares none. Calls may run
 // at the same time as long as no thread writes to what another call has been lent.
 //
-// Stack. A run of up to 1,024 bytes of events takes about 21 kB of stack, one of up to 8,192 bytes about 34 kB and a
-// longer one about 140 kB; the other calls take less than 20 kB. These are measured figures: no theorem bounds the
+// Stack. A run of up to 1,024 bytes of events takes about 26 kB of stack, one of up to 8,192 bytes about 39 kB and a
+// longer one about 145 kB; the other calls take less than 20 kB. These are measured figures: no theorem bounds the
 // stack. A thread with 256 kB has enough for each call, one with 64 kB for runs of up to 1,024 bytes of events. A
 // stack needs a guard page below it, as the system gives its threads: without one an overrun goes unnoticed.
 //
@@ -57,7 +58,7 @@
 // The table text is over 8,192 bytes. Second number: 0.
 #define CESSION_TABLE_TOO_LONG 1
 // A line is none of the four forms of a table, or has no line feed; a layer's form has as many rates as
-// reinstatements. Second number: the line.
+// reinstatements, and (time) may be its last item. Second number: the line.
 #define CESSION_NOT_A_TABLE_FORM 2
 // A number of the table is outside its range. Second number: the line.
 #define CESSION_TABLE_NUMBER_OUT_OF_RANGE 3
@@ -67,12 +68,13 @@
 // An attachment is below the end of the band before. Second number: the line.
 #define CESSION_BANDS_OVERLAP 5
 // No table text reads to the programme; anything but 0 in an unused place or in a rate past the last reinstatement is
-// enough. Second number: 0.
+// enough, and so is a time other than 0 or 1. Second number: 0.
 #define CESSION_NOT_A_PROGRAMME 6
 // The buffer is shorter than the text. Second number: the length needed, in bytes.
 #define CESSION_BUFFER_TOO_SHORT 7
-// The standing is not one of the programme: a spent amount is above its cap or not 0 for a missing layer, or the last
-// day is over 366. Second number: 0.
+// The standing is not one of the programme: a spent amount is above its cap or not 0 for a missing layer; a timed
+// premium is above its layer's amount premium at the spent amount, or not 0 for a layer that is missing or has time 0;
+// or the last day is over 366. Second number: 0.
 #define CESSION_NOT_A_STANDING 8
 // The events text is over 65,536 bytes. Second number: 0.
 #define CESSION_EVENTS_TOO_LONG 9
@@ -112,6 +114,9 @@ typedef struct cession_terms {
     uint64_t placed;         // the placed share, bp, 0 to 10,000
     uint64_t rates[CESSION_RATES]; // each reinstatement's rate, bp, 0 to 20,000, in the order of their use; 0 past the
                                    // last reinstatement
+    uint64_t time; // 0 where premium is by amount alone, 1 where it is by amount and time, (time) in the table: each
+                   // loss's amount premium times its day's time share, 10,000 * (366 - day) / 365 rounded down, over
+                   // 10,000, to the nearest cent
 } cession_terms;
 
 // Treaties in the first places; every number of the places from count on is 0.
@@ -133,12 +138,16 @@ typedef struct cession_programme {
     cession_layers cat;        // the layers that meet what the risk layers leave of an event
 } cession_programme;
 
-// The year so far. A fresh year has 0 in every number.
+// The year so far. A fresh year has 0 in every number. The standing of a programme without (time) is told by the first
+// 17 of these numbers; the other 16 are 0.
 typedef struct cession_standing {
     uint64_t risk[CESSION_PLACES]; // the spent amount of each risk layer, cents, 0 to its cap; 0 for a missing layer.
                                    // The cap is deductible + limit * (reinstatements + 1)
     uint64_t cat[CESSION_PLACES];  // the spent amount of each cat layer, likewise
     uint64_t day;                  // the last day run, 0 to 366; 0 before the first event
+    uint64_t risk_timed[CESSION_PLACES]; // the premium charged this year for each risk layer with time 1, cents, 0 to
+                                         // its amount premium at the spent amount; 0 for the other layers
+    uint64_t cat_timed[CESSION_PLACES];  // the premium charged this year for each cat layer with time 1, likewise
 } cession_standing;
 
 // What writing and running answer.

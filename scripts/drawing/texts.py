@@ -29,6 +29,7 @@ class Band(NamedTuple):
     premium: int
     rates: Tuple[int, ...]  # one for each reinstatement
     placed: int
+    is_timed: bool  # whether premium is by amount and time
 
     @property
     def end(self):
@@ -80,9 +81,10 @@ def form(template):
 
 
 def layer_form(tier):
-    """A layer's form, with its rates, however many, in one part."""
-    begin, end = "(%s (band A L) (deduct D) (back K P" % tier, ") (placed S))"
-    return re.compile("%s((?: %s)*)%s" % (expression(begin), NUMBER, expression(end)))
+    """A layer's form, with its rates, however many, in one part, and (time), if it is there, in another."""
+    begin, placed, time = "(%s (band A L) (deduct D) (back K P" % tier, ") (placed S)", " (time)"
+    parts = expression(begin), NUMBER, expression(placed), expression(time), expression(")")
+    return re.compile("%s((?: %s)*)%s(%s)?%s" % parts)
 
 
 QUOTA = form("(quota T (cede C) (capacity A) (event L))")
@@ -137,11 +139,11 @@ def band_of(line):
     for tier, pattern in BANDS.items():
         match = pattern.fullmatch(line)
         if match:
-            *terms, listed, placed = match.groups()
+            *terms, listed, placed, time = match.groups()
             attachment, limit, deductible, reinstatements, premium = map(int, terms)
             rates = tuple(map(int, listed.split()))
             if len(rates) == reinstatements:
-                return Band(tier, attachment, limit, deductible, premium, rates, int(placed))
+                return Band(tier, attachment, limit, deductible, premium, rates, int(placed), time is not None)
     return None
 
 

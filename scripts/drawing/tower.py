@@ -102,12 +102,13 @@ def layer_label(layer):
     back = counted(len(band.rates), "reinstatement")
     if band.rates:
         back += " at %s of %s" % (rates_in_words(band.rates), cents(band.premium))
+    charged = "premium by amount and time" if band.is_timed else "reinstatement premium"
     return [
         "%s %d: %s xs %s, %s placed" % (
             band.tier, layer.place, cents(band.limit), cents(band.attachment), share(band.placed)),
         "yearly deductible %s, left %s" % (cents(band.deductible), cents(layer.deductible)),
         "%s; cover left %s" % (back, cents(layer.cover)),
-        "recovered %s; reinstatement premium %s" % (cents(layer.recovered), cents(layer.premium))]
+        "recovered %s; %s %s" % (cents(layer.recovered), charged, cents(layer.premium))]
 
 
 def spread(centres, low, high):

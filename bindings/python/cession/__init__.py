@@ -23,6 +23,13 @@ A first reinstatement that is free, and a second at 100% of the premium: what is
 >>> print(cession.run(two, cession.open_year(two), events)[0].decode().splitlines()[2])
 (layer cat 1 (deductible 0) (cover 150) (recovered 150) (premium 500))
 
+By amount and time: on day 147 three fifths of the year are left, and of the premium 30,000,000 as above.
+
+>>> timed = cession.read(table.replace(b"8000)", b"8000) (time)"))
+>>> events = b"(event 147 (loss 0 350000000 350000000))\\n"
+>>> cession.run(timed, cession.open_year(timed), events)[1].cat_timed[0]
+18000000
+
 Half of 101 is 50.5:
 
 >>> half = cession.read(b"(quota 1 (cede 5000) (capacity 0) (event 0))\\n")
@@ -39,7 +46,7 @@ A call that is turned down:
 
 The shared object is the file that the environment's CESSION_LIBRARY names, else libcession.so beside this module, else
 what the system's loader finds under that name. The calls are pure functions of what is lent to them and may run in any
-number of threads at once; a run takes about 21 kB of stack for up to 1,024 bytes of events and about 140 kB for the
+number of threads at once; a run takes about 26 kB of stack for up to 1,024 bytes of events and about 145 kB for the
 longest text, so that a thread of 256 kB has enough.
 """
 

@@ -78,6 +78,8 @@ def write(programme: Programme) -> bytes:
     >>> from cession import Terms
     >>> write(Programme(cat=[Terms(attachment=50, limit=100, placed=9000)]))
     b'(cat (band 50 100) (deduct 0) (back 0 0) (placed 9000))\\n'
+    >>> write(Programme(cat=[Terms(attachment=50, limit=100, placed=9000, time=1)]))
+    b'(cat (band 50 100) (deduct 0) (back 0 0) (placed 9000) (time))\\n'
     >>> write(Programme(cat=[Terms(attachment=50, limit=0)]))
     Traceback (most recent call last):
     cession.refusals.ProgrammeRefused: the programme is not one that a treaty table can state

@@ -86,11 +86,13 @@ class Treaty:
 class Terms:
     """The terms of an excess layer. The deductible is yearly; reinstatements are a number, and each has its rate of
     the premium, which is that for 100% of the layer. Rates stand in 20 places, in the order in which the
-    reinstatements are used; those that are left out are 0.
+    reinstatements are used; those that are left out are 0. `time` is 0 where premium is by amount alone and 1 where it
+    is by amount and time, `(time)` in the table: each loss's amount premium times its day's time share, 10,000 x
+    (366 - day) / 365 rounded down, over 10,000, to the nearest cent.
 
     >>> Terms(attachment=50, limit=100, placed=9000).deductible
     0
-    >>> Terms(attachment=50, limit=100, reinstatements=2, premium=1000, rates=(0, 10000)).rates[:3]
+    >>> Terms(attachment=50, limit=100, reinstatements=2, premium=1000, rates=(0, 10000), time=1).rates[:3]
     (0, 10000, 0)
     """
 
@@ -101,6 +103,7 @@ class Terms:
     premium: int = 0
     placed: int = 0
     rates: Tuple[int, ...] = ()
+    time: int = 0
 
     def __post_init__(self):
         rates = tuple(self.rates)
@@ -155,21 +158,34 @@ class Programme:
         return programme
 
 
+# What a standing has of each layer.
+_ROWS = ("risk", "cat", "risk_timed", "cat_timed")
+
+
 @dataclass(frozen=True)
 class Standing:
-    """The year so far: the spent amount of each layer in 8 places for each tier, 0 where there is no layer, and the
-    last day run.
+    """The year so far: the spent amount of each layer in 8 places for each tier, 0 where there is no layer; the last
+    day run; and the premium charged this year for each layer with `(time)`, in places likewise, 0 elsewhere.
 
     >>> Standing().day
     0
+
+    Under a programme without `(time)` the timed premiums are 0 and may be left out:
+
+    >>> kept = [0] * 8 + [70] + [0] * 7 + [7]
+    >>> standing = Standing(kept[:8], kept[8:16], kept[16])
+    >>> standing.cat[0], standing.day, standing.risk_timed == standing.cat_timed == (0,) * 8
+    (70, 7, True)
     """
 
     risk: Tuple[int, ...] = (0,) * raw.PLACES
     cat: Tuple[int, ...] = (0,) * raw.PLACES
     day: int = 0
+    risk_timed: Tuple[int, ...] = (0,) * raw.PLACES
+    cat_timed: Tuple[int, ...] = (0,) * raw.PLACES
 
     def __post_init__(self):
-        for name in ("risk", "cat"):
+        for name in _ROWS:
             object.__setattr__(self, name, tuple(getattr(self, name)))
 
     def to_raw(self) -> raw.Standing:
@@ -179,14 +195,15 @@ class Standing:
         Traceback (most recent call last):
         ValueError: day is -1 and must be from 0 to 2**64 - 1
         """
-        risk, cat = (_numbers(name, getattr(self, name), raw.PLACES) for name in ("risk", "cat"))
-        return raw.Standing(risk, cat, _word("day", self.day))
+        rows = {name: _numbers(name, getattr(self, name), raw.PLACES) for name in _ROWS}
+        return raw.Standing(day=_word("day", self.day), **rows)
 
     @classmethod
     def from_raw(cls, numbers: raw.Standing) -> "Standing":
         """The standing with these numbers.
 
-        >>> Standing.from_raw(Standing(day=230).to_raw()) == Standing(day=230)
+        >>> standing = Standing(cat=range(8), day=230, risk_timed=range(8, 16))
+        >>> Standing.from_raw(standing.to_raw()) == standing
         True
         """
-        return cls(tuple(numbers.risk), tuple(numbers.cat), numbers.day)
+        return cls(day=numbers.day, **{name: tuple(getattr(numbers, name)) for name in _ROWS})

@@ -33,7 +33,9 @@ class Treaty(Structure):
 
 
 class Terms(Structure):
-    """The terms of an excess layer: each reinstatement's rate, in the order of their use, and 0 past the last."""
+    """The terms of an excess layer: each reinstatement's rate, in the order of their use, and 0 past the last; time is
+    1 where premium is by amount and time, else 0.
+    """
 
     _fields_ = [
         ("attachment", c_uint64),
@@ -43,6 +45,7 @@ class Terms(Structure):
         ("premium", c_uint64),
         ("placed", c_uint64),
         ("rates", c_uint64 * RATES),
+        ("time", c_uint64),
     ]
 
 
@@ -65,9 +68,15 @@ class Programme(Structure):
 
 
 class Standing(Structure):
-    """Each layer's spent amount, by tier and place, and the last day run."""
+    """Each layer's spent amount, by tier and place, the last day run, and each layer's timed premium likewise."""
 
-    _fields_ = [("risk", c_uint64 * PLACES), ("cat", c_uint64 * PLACES), ("day", c_uint64)]
+    _fields_ = [
+        ("risk", c_uint64 * PLACES),
+        ("cat", c_uint64 * PLACES),
+        ("day", c_uint64),
+        ("risk_timed", c_uint64 * PLACES),
+        ("cat_timed", c_uint64 * PLACES),
+    ]
 
 
 class Answer(Structure):

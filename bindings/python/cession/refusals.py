@@ -40,7 +40,8 @@ _SENTENCES = {
     Refusal.NOT_A_PROGRAMME: "the programme is not one that a treaty table can state",
     Refusal.BUFFER_TOO_SHORT: "the text needs {second} bytes, more than the buffer has",
     Refusal.NOT_A_STANDING: "the standing is not one of this programme: a spent amount is above its layer's cap or "
-    "belongs to no layer, or the day is after 366",
+    "belongs to no layer, a timed premium is above its layer's amount premium or belongs to no layer with (time), or "
+    "the day is after 366",
     Refusal.EVENTS_TOO_LONG: "the events are longer than 65,536 bytes",
     Refusal.NOT_AN_EVENT_FORM: _EVENTS + "is not an event form",
     Refusal.EVENT_NUMBER_OUT_OF_RANGE: _EVENTS + "has a number outside its range",

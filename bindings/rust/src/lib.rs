@@ -17,6 +17,13 @@
 //! assert_eq!(standing.cat()[0], 150_000_000);
 //! assert_eq!(standing.day(), 230);
 //!
+//! // By amount and time: on day 147 three fifths of the year are left.
+//! let table = b"(cat (band 100000000 150000000) (deduct 0) (back 1 75000000 5000) (placed 8000) (time))\n";
+//! let programme = Programme::read(table)?;
+//! let mut standing = programme.open()?;
+//! programme.run(&mut standing, b"(event 147 (loss 0 350000000 350000000))\n")?;
+//! assert_eq!(standing.cat_timed()[0], 18_000_000);
+//!
 //! // Half of 101 is 50.5.
 //! let programme = Programme::read(b"(quota 1 (cede 5000) (capacity 0) (event 0))\n")?;
 //! let statement = programme.run(&mut programme.open()?, b"(event 4 (loss 1 101 101))\n")?;
@@ -25,7 +32,7 @@
 //! ```
 //!
 //! The calls are pure functions of what is lent to them and may run in any number of threads at once. A run takes
-//! about 21 kB of stack for up to 1,024 bytes of events and about 140 kB for the longest text: a thread of 256 kB has
+//! about 26 kB of stack for up to 1,024 bytes of events and about 145 kB for the longest text: a thread of 256 kB has
 //! enough for each call, and Rust's threads have 2 MB if nothing else is said. The library libcession.a is linked in;
 //! with Cargo, `CESSION_LIB_DIR` names its folder.
 

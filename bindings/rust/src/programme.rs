@@ -24,6 +24,11 @@ use crate::{raw, Refusal, Standing, Terms, Treaty, EVENTS_BYTES, TABLE_BYTES};
 /// numbers.cat.places[0] = layer;
 /// let text = Programme::from(numbers).write()?;
 /// assert_eq!(text, b"(cat (band 50 100) (deduct 0) (back 2 1000 0 10000) (placed 9000))\n");
+///
+/// // By amount and time.
+/// numbers.cat.places[0].time = 1;
+/// let text = Programme::from(numbers).write()?;
+/// assert_eq!(text, b"(cat (band 50 100) (deduct 0) (back 2 1000 0 10000) (placed 9000) (time))\n");
 /// # Ok::<(), Refusal>(())
 /// ```
 #[derive(Clone, Default, PartialEq, Eq, Debug)]

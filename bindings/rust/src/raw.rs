@@ -62,6 +62,9 @@ pub struct Terms {
     /// Each reinstatement's rate, bp, 0 to 20,000, in the order in which they are used; the rates past the last
     /// reinstatement are 0.
     pub rates: [u64; 20],
+    /// 0 where premium is by amount alone, 1 where it is by amount and time: each loss's amount premium times its
+    /// day's time share, 10,000 × (366 − day) / 365 rounded down, over 10,000, to the nearest cent.
+    pub time: u64,
 }
 
 /// Treaties in the first `count` places; every number of the other places is 0.
@@ -96,7 +99,7 @@ pub struct Programme {
     pub cat: Layers,
 }
 
-/// Each layer's spent amount, by tier and place, and the last day run.
+/// Each layer's spent amount and timed premium, by tier and place, and the last day run.
 #[repr(C)]
 #[derive(Clone, Copy, Default, PartialEq, Eq, Debug)]
 pub struct Standing {
@@ -106,6 +109,11 @@ pub struct Standing {
     pub cat: [u64; 8],
     /// The last day run, 0 to 366; 0 before the first event.
     pub day: u64,
+    /// The premium charged this year for each risk layer with `time` 1, cents, 0 to its amount premium at its spent
+    /// amount; 0 for the others.
+    pub risk_timed: [u64; 8],
+    /// The premium charged this year for each cat layer with `time` 1, likewise.
+    pub cat_timed: [u64; 8],
 }
 
 /// What writing and running answer.

@@ -21,7 +21,7 @@ pub enum Refusal {
     /// 1: the table text is over 8,192 bytes.
     TableTooLong,
     /// 2: the line is none of the four forms of a table, or has no line feed; a layer's form has as many rates as
-    /// reinstatements.
+    /// reinstatements, and `(time)` may be its last item.
     NotATableForm { line: u64 },
     /// 3: a number of the line is outside its range.
     TableNumberOutOfRange { line: u64 },
@@ -29,11 +29,13 @@ pub enum Refusal {
     TableOutOfOrder { line: u64 },
     /// 5: the line's attachment is below the end of the band before.
     BandsOverlap { line: u64 },
-    /// 6: no table text reads to the programme.
+    /// 6: no table text reads to the programme; `time` other than 0 or 1, or anything but 0 in an unused place, is
+    /// enough.
     NotAProgramme,
     /// 7: the buffer is shorter than the text, which needs this many bytes.
     BufferTooShort { needed: usize },
-    /// 8: a spent amount is above its cap or not 0 for a missing layer, or the last day is over 366.
+    /// 8: a spent amount is above its cap or not 0 for a missing layer, a timed premium is above its layer's amount
+    /// premium or not 0 for a layer that is missing or has no `(time)`, or the last day is over 366.
     NotAStanding,
     /// 9: the events text is over 65,536 bytes.
     EventsTooLong,
@@ -134,7 +136,8 @@ impl Refusal {
 }
 
 const TABLE_ORDER: &str = "treaties with rising numbers come first, then up to 8 risk layers, then up to 8 cat layers";
-const STANDING_RULE: &str = "a spent amount is above its layer's cap or belongs to no layer, or the day is after 366";
+const STANDING_RULE: &str = "a spent amount is above its layer's cap or belongs to no layer, a timed premium is above \
+    its layer's amount premium or belongs to no layer with (time), or the day is after 366";
 
 impl fmt::Display for Refusal {
     fn fmt(&self, f: &mut fmt::Formatter<'_>) -> fmt::Result {
