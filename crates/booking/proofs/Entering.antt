@@ -22,7 +22,7 @@ use Rattle.layer.specs.Numbers.{tierFrom}
 use Rattle.layer.specs.Tier.{recoveriesBy, layersOn, layersThrough, recoveriesThrough, duesThrough}
 use Rattle.layer.proofs.Tiers.{recoveries-le-subject}
 use Rattle.scale.specs.Scale.{shareOn}
-use Rattle.scale.proofs.Table.{fair-on}
+use Rattle.scale.proofs.Passing.{fair-on}
 use Rattle.programme.specs.Contracts.{Contracts}
 use Rattle.events.specs.Event.{Event}
 use Rattle.year.specs.declared.Amounts.{Amounts}

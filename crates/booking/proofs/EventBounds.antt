@@ -19,7 +19,7 @@ use Rattle.layer.specs.Tier.{recoveriesThrough, duesThrough, leftThrough, recov
 use Rattle.layer.specs.Ranges.{Sound, Rising}
 use Rattle.layer.proofs.Tiers.{recovered-and-left-through, dues-through-le, recoveries-le-subject}
 use Rattle.scale.specs.Scale.{shareOn, Fair}
-use Rattle.scale.proofs.Table.{fair-on}
+use Rattle.scale.proofs.Passing.{fair-on}
 use Rattle.events.specs.Event.{Event}
 use Rattle.year.specs.Event.{Year, leftByTreaties, subjectOf, eventAmounts}
 use Rattle.year.specs.Statement.{amountsNumbers}

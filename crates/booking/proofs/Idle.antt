@@ -11,7 +11,7 @@ use Rattle.layer.specs.Ranges.{Sound}
 use Rattle.layer.specs.Tier.{recoveriesBy, duesBy}
 use Rattle.layer.proofs.Still.{From, Still, still-from, layers-still, recoveries-still, dues-still}
 use Rattle.scale.specs.Scale.{shareOn, Fair}
-use Rattle.scale.proofs.Table.{fair-on}
+use Rattle.scale.proofs.Passing.{fair-on}
 use Rattle.events.specs.Event.{Event}
 use Rattle.year.specs.declared.Amounts.{Amounts}
 use Rattle.year.specs.Event.{Year, subjectOf, eventAfter, eventAmounts}

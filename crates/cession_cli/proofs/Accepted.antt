@@ -21,8 +21,8 @@ use Rattle.events.specs.Rules.{eventFault}
 use Rattle.events.specs.Read.{EventsRead, turnedDown, events, eventBefore, unlessFault, readFrom, eventsOf}
 use Rattle.year.specs.declared.Standing.{Standing}
 use Rattle.year.specs.Standing.{standingPasses}
-use Rattle.scale.specs.Scale.{timeShares}
-use Rattle.year.specs.Run.{Left, runThrough, runFrom, runUnder, runOf}
+use Rattle.scale.specs.Scale.{timeShares, scalePasses}
+use Rattle.year.specs.Run.{Left, runThrough, runBy, runFrom, runUnder, runOf}
 use Rattle.engine.specs.declared.run.Ran.{Ran}
 use Rattle.engine.specs.Run.{ranOf}
 
@@ -69,13 +69,18 @@ module _ (shares : List ℕ) where
   through-numbered c s room (turnedDown n w) h = h
   through-numbered c s room (events es) h = either-way room _ _ Numbered (λ _. tt) (λ _. omega arith)
 
+  by-numbered : (c : Contracts) (s : Standing) (text : List ℕ) (room : ℕ) → Numbered (runBy shares c s text room)
+  unfolding runBy
+  by-numbered c s text room =
+      either (scalePasses shares) (runThrough shares c s room (eventsOf (c .treaties) (s .day) text)) (refused 28 0)
+      (through-numbered c s room (eventsOf (c .treaties) (s .day) text) (text-told (c .treaties) (s .day) text))
+      (omega arith)
+
   from-numbered : (c : Contracts) (s : Standing) (text : List ℕ) (room : ℕ)
       → Numbered (runFrom shares c s text room)
   unfolding runFrom
   from-numbered c s text room =
-      either (standingPasses c s) (runThrough shares c s room (eventsOf (c .treaties) (s .day) text)) (refused 8 0)
-      (through-numbered c s room (eventsOf (c .treaties) (s .day) text) (text-told (c .treaties) (s .day) text))
-      (omega arith)
+      either (standingPasses c s) (runBy shares c s text room) (refused 8 0) (by-numbered c s text room) (omega arith)
 
   run-numbered : (p : Programme) (s : Standing) (text : List ℕ) (room : ℕ) → Numbered (runUnder shares p s text room)
   unfolding runUnder

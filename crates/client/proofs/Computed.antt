@@ -1,5 +1,6 @@
 -- What the definitions come to on the client's texts, programmes and standings, by computation.
 -- Assumes nothing.
+use mathlib.Core.Bool.{true}
 use mathlib.Core.Path.{_≡_, refl, ap, _∙_}
 use mathlib.Core.List.{List, [], _∷_, _++_}
 use Prim.Native.Nat.{ℕ}
@@ -13,9 +14,10 @@ use Rattle.treaty.specs.Treaty.{cededByQuota, cededBySurplus, cededOf, cutToLim
 use Rattle.treaty.specs.Losses.{cededIn}
 use Rattle.layer.specs.Layer.{placedOf, recoveredOf, ratedOf, premiumOf, recoveryOf, chargeOf}
 use Rattle.layer.specs.Layer.{dueFor, dueOf, timedPart, timedMost, yearPremium}
-use Rattle.scale.specs.Scale.{dayShare, timeShares}
+use Rattle.scale.specs.Scale.{dayShare, timeShares, scalePasses}
 use Rattle.answer.specs.declared.Answer.{Answer}
 use Rattle.answer.specs.Outcome.{refused, fitted, answerOf, bufferAfter}
+use Rattle.scale_text.specs.Read.{dayFault, lineFault, readFrom as scaleFrom, readOf as readScale}
 use Rattle.programme.specs.declared.contract.Programme.{Programme}
 use Rattle.programme.specs.Ranges.{outside, treatyOutside, ratesOutside, termsOutside, treatyNotZero, termsNotZero}
 use Rattle.programme.specs.Rules.{treatyFault, layerFault}
@@ -33,12 +35,13 @@ use Rattle.year.specs.declared.Opening.{Opening}
 use Rattle.year.specs.Event.{subjectOf}
 use Rattle.year.specs.Statement.{statementText}
 use Rattle.year.specs.Standing.{openOf, standingPasses}
-use Rattle.year.specs.Run.{runFrom, runUnder, runOf, standingAfter}
+use Rattle.year.specs.Run.{runBy, runFrom, runUnder, runOf, standingAfter}
 use Rattle.client.specs.declared.After.{After}
 use Rattle.client.specs.After.{afterOf}
 use Rattle.client.specs.Sidney.{noProgramme, opened, tableText, eventsText, statement, sidney, unusedPlace}
 use Rattle.client.specs.Sidney.{afterwards, overTheWhole}
 use Rattle.client.specs.Timed.{timedTable, timedEvents, timedStatement, timed, charged, overcharged}
+use Rattle.client.specs.Scaled.{steps, tooFew, risingText, scaledStatement, scaledStanding}
 
 pub record Computed : Type 0 where
   pub read : readOf tableText ≡ record { refusal = 0; line = 0; programme = sidney }
@@ -58,16 +61,24 @@ pub record Computed : Type 0 where
   pub charged-timed : standingAfter (runOf timed opened timedEvents 243) opened ≡ charged
   pub bytes-timed : bufferAfter (runOf timed opened timedEvents 243) (replicate 243 35) ≡ timedStatement ++ (35 ∷ [])
   pub too-much : (text : List ℕ) (room : ℕ) → runOf timed overcharged text room ≡ refused 8 0
+  pub a-scale : scalePasses steps ≡ true
+  pub not-read-scale : readScale risingText
+      ≡ record { refusal = 30; line = 2; scale = record { shares = replicate 366 0 } }
+  pub ran-scaled : answerOf (runUnder steps timed opened timedEvents 246) ≡ record { refusal = 0; number = 245 }
+  pub charged-scaled : standingAfter (runUnder steps timed opened timedEvents 246) opened ≡ scaledStanding
+  pub bytes-scaled : bufferAfter (runUnder steps timed opened timedEvents 246) (replicate 246 35)
+      ≡ scaledStatement ++ (35 ∷ [])
+  pub too-few : (text : List ℕ) (room : ℕ) → runUnder tooFew sidney afterwards text room ≡ refused 28 0
 
 pub computed : Computed
 unfolding
     rounded printedBy printed digitOf readOn number capital filled matched wholeOf lineNumbers linesOf
     cededByQuota cededBySurplus cededOf cutToLimit cededOfLoss placedOf recoveredOf ratedOf premiumOf recoveryOf
-    chargeOf dueFor dueOf timedPart timedMost yearPremium dayShare timeShares kindOf ratesText layerNumbers tailTime
-    layerTerms formOfKind formOf treatyLine outside treatyOutside ratesOutside
+    chargeOf dueFor dueOf timedPart timedMost yearPremium dayShare timeShares dayFault lineFault scaleFrom readScale
+    kindOf ratesText layerNumbers tailTime layerTerms formOfKind formOf treatyLine outside treatyOutside ratesOutside
     termsOutside treatyNotZero termsNotZero treatyFault layerFault readFrom readOf validTreaties validLayers valid
     closes lossesUpTo eventOf lossOutside eventOutside lacking eventFault eventsOf eventsFrom cededIn subjectOf
-    statementText openOf standingPasses fitted writeOf runFrom runUnder
+    statementText openOf standingPasses fitted writeOf scalePasses runBy runFrom runUnder
 computed = record {
   read = refl;
   not-read = refl;
@@ -86,6 +97,12 @@ computed = record {
   charged-timed = refl;
   bytes-timed = refl;
   too-much = λ text room. refl;
+  a-scale = refl;
+  not-read-scale = refl;
+  ran-scaled = refl;
+  charged-scaled = refl;
+  bytes-scaled = refl;
+  too-few = λ text room. refl;
 }
 
 -- as the calls' contracts have them

@@ -1,2 +1,4 @@
+pub mod Given
 pub mod Computed
 pub mod TimedRun
+pub mod ScaledRun

@@ -1,3 +1,4 @@
 pub mod After
 pub mod Sidney
 pub mod Timed
+pub mod Scaled

@@ -1,4 +1,4 @@
--- A run past 6, 8 and 9: what reading its lines leaves for the statement.
+-- A run past 6, 8, 28 and 9: what reading its lines leaves for the statement.
 -- Assumes nothing.
 use mathlib.Core.Path.{_≡_, refl, sym, ap, _∙_}
 use mathlib.Core.List.{List, [], _∷_}

@@ -1,6 +1,8 @@
--- Document 01, When a call is turned down, with document 02's Q-4: what a run gives back, and what its parts take.
+-- Document 01, When a call is turned down, with document 02's Q-4 and Q-12: what a run gives back, and what its parts
+-- take.
 -- Assumes nothing.
 use mathlib.Core.Path.{_≡_}
+use mathlib.Core.Bool.{true, cond}
 use mathlib.Core.List.{List, _++_}
 use Prim.Native.Nat.{ℕ, _+_, _*_, _≤_}
 use lib.ListN.{length}
@@ -9,13 +11,16 @@ use Rattle.answer.specs.Outcome.{Outcome, answerOf, bufferAfter}
 use Rattle.text.specs.Buffer.{Put}
 use Rattle.treaty.specs.Ranges.{LossInRange}
 use Rattle.layer.specs.Numbers.{tierFrom}
-use Rattle.programme.specs.Contracts.{Contracts}
+use Rattle.scale.specs.Scale.{scalePasses}
+use Rattle.programme.specs.declared.contract.Programme.{Programme}
+use Rattle.programme.specs.Contracts.{Contracts, contractsIn}
+use Rattle.programme.specs.Valid.{valid}
 use Rattle.events.specs.Event.{Event, formsOf, lastDay}
 use Rattle.events.specs.Read.{events, readFrom}
 use Rattle.year.specs.declared.Standing.{Standing}
 use Rattle.year.specs.Event.{yearAfter}
 use Rattle.year.specs.Statement.{statementOf, statementText}
-use Rattle.year.specs.Standing.{standingOf, yearOf}
+use Rattle.year.specs.Standing.{standingOf, yearOf, standingPasses}
 use Rattle.year.specs.Run.{Left, runThrough, standingAfter}
 use Rattle.losses.specs.Event.{eventsNumbers}
 use Rattle.booking.specs.Book.{contractsFrom, Lent, linesRoom}
@@ -30,11 +35,21 @@ ranOf o lent = record { answer = answerOf o; standing = standingAfter o lent }
 abbrev pub writtenRan : (bytes : ℕ) → Standing → Ran
 writtenRan n after = record { answer = record { refusal = 0; number = n }; standing = after }
 
+-- what refuses a run before its scale and its text are looked at: 6, then 8; 0 for nothing
+abbrev pub lentFault : Programme → Standing → ℕ
+lentFault p s = cond (valid p) (cond (standingPasses (contractsIn p) s) 0 8) 6
+
+-- a scale, a programme and a standing that have passed their tests: 28, 6 and 8
+pub record Tested (shares : List ℕ) (p : Programme) (s : Standing) : Type 0 where
+  pub programme : valid p ≡ true
+  pub standing : standingPasses (contractsIn p) s ≡ true
+  pub scale : scalePasses shares ≡ true
+
 -- the two equations of a run's promise: what it gives back, and what the buffer d is after it
 abbrev pub RanAs : Outcome Left → Standing → (d d′ : List ℕ) → Ran → Type 0
 RanAs o lent d d′ r = (r ≡ ranOf o lent) × (d′ ≡ bufferAfter o d)
 
--- what a run that is past 6, 8 and 9 comes to, with a buffer of `room` bytes
+-- what a run that is past 6, 8, 28 and 9 comes to, with a buffer of `room` bytes
 abbrev pub runLines : (shares : List ℕ) → Contracts → Standing → (text : List ℕ) (room : ℕ) → Outcome Left
 runLines shares c s text room = runThrough shares c s room (readFrom (c .treaties) 1 (s .day) (formsOf text))
 
@@ -93,7 +108,7 @@ pub record StatedAs (shares register risks cats : List ℕ) (s : Standing) (es :
 pub record RoomFor (risk cat ns : List ℕ) (room : ℕ) : Type 0 where
   pub enough : (es : List Event) → ns ≡ eventsNumbers es → linesRoom es + restRoom risk cat ≤ room
 
--- a run that is past 6, 8 and 9, of a text of at most n bytes
+-- a run that is past 6, 8, 28 and 9, of a text of at most n bytes
 pub record CanRun (n : ℕ) (shares register risk cat : List ℕ) (s : Standing) (text : List ℕ) : Type 0 where
   pub lent : Lent shares register risk cat (riskHeld s) (catHeld s)
   pub places : (length (s .risk) ≡ 8) × (length (s .cat) ≡ 8)

@@ -5,11 +5,10 @@ ghost use mathlib.Core.Path.{_≡_};
 ghost use lib.ListN.{length};
 ghost use Rattle.answer.specs.Outcome.{refused, bufferAfter};
 ghost use Rattle.events.specs.Event.{Event};
-ghost use Rattle.scale.specs.Scale.{Fair};
 ghost use Rattle.year.specs.Run.{runUnder, runOf};
 ghost use Rattle.losses.specs.Event.{eventsNumbers};
-ghost use Rattle.engine.specs.Run.{ranOf, writtenRan, RanAs, StatedAs, RanText, RanEvents};
-ghost use Rattle.engine.specs.Run.{CanState, RoomFor, CanRun, PlacesFor};
+ghost use Rattle.engine.specs.Run.{lentFault, ranOf, writtenRan, RanAs, StatedAs, RanText, RanEvents};
+ghost use Rattle.engine.specs.Run.{CanState, RoomFor, CanRun, PlacesFor, Tested};
 use answer::Answer;
 use booking::book;
 use events::rule;
@@ -183,7 +182,7 @@ fn write(
     write_measured(shares, register, risk, cat, events, standing, buffer)
 }
 
-// A run that is past 6, 8 and 9, with places for the events' numbers.
+// A run that is past 6, 8, 28 and 9, with places for the events' numbers.
 fn through(
     shares: &[u64],
     register: &[u64],
@@ -341,8 +340,20 @@ fn placed(
     long(shares, register, risk, cat, standing, events, buffer)
 }
 
-// Runs an events text under a programme, from a standing on, with premiums by lent time shares. The contracts are laid
-// out as numbers once, to be lent.
+// What refuses a run before its scale and its text are looked at: 6, then 8; 0 for nothing.
+fn lent_fault(programme: Programme, standing: Standing) -> u64
+    ensures { λ r. ⌜ r ≡ lentFault programme standing ⌝ }
+{
+    if valid::holds(programme) {} else {
+        return valid::NOT_A_PROGRAMME;
+    }
+    if standings::passes(programme, standing) {
+        return 0;
+    }
+    standings::NOT_A_STANDING
+}
+
+// A run that is past 6, 8 and 28. The contracts are laid out as numbers once, to be lent.
 fn run_under(
     shares: &[u64],
     programme: Programme,
@@ -350,16 +361,10 @@ fn run_under(
     events: &[u8],
     buffer: &mut [u8],
 ) -> Ran
-    requires { ⌜ Fair (now shares) ⌝ }
+    requires { ⌜ Tested (now shares) programme standing ⌝ }
     ensures { λ r. ⌜ RanAs (runUnder (now (shares .entry)) programme standing (now (events .entry))
         (length (now (buffer .entry)))) standing (now (buffer .entry)) (now (buffer .exit)) r ⌝ }
 {
-    if valid::holds(programme) {} else {
-        return refused(valid::NOT_A_PROGRAMME, 0, standing);
-    }
-    if standings::passes(programme, standing) {} else {
-        return refused(standings::NOT_A_STANDING, 0, standing);
-    }
     if rule::EVENTS_BYTES < events.len() {
         return refused(rule::EVENTS_TOO_LONG, 0, standing);
     }
@@ -381,7 +386,34 @@ fn run_under(
     )
 }
 
-// The same with premiums by the built-in time shares.
+// Runs an events text under a programme, from a standing on, with premiums by lent shares, which may hold anything.
+pub fn run_scaled(
+    programme: Programme,
+    standing: Standing,
+    shares: &[u64],
+    events: &[u8],
+    buffer: &mut [u8],
+) -> Ran
+    ensures { λ r. ⌜ (r
+        ≡ ranOf
+        (runUnder (now (shares .entry)) programme standing (now (events .entry)) (length (now (buffer .entry))))
+        standing)
+        × (now (buffer .exit)
+        ≡ bufferAfter
+        (runUnder (now (shares .entry)) programme standing (now (events .entry)) (length (now (buffer .entry))))
+        (now (buffer .entry))) ⌝ }
+{
+    let fault = lent_fault(programme, standing);
+    if fault != 0 {
+        return refused(fault, 0, standing);
+    }
+    if scale::passes(shares) {
+        return run_under(shares, programme, standing, events, buffer);
+    }
+    refused(scale::NOT_A_SCALE, 0, standing)
+}
+
+// The same with premiums by the built-in time shares, which are known to be a scale and need no test.
 pub fn run(programme: Programme, standing: Standing, events: &[u8], buffer: &mut [u8]) -> Ran
     ensures { λ r. ⌜ (r
         ≡ ranOf (runOf programme standing (now (events .entry)) (length (now (buffer .entry)))) standing)
@@ -389,6 +421,10 @@ pub fn run(programme: Programme, standing: Standing, events: &[u8], buffer: &mut
         ≡ bufferAfter (runOf programme standing (now (events .entry)) (length (now (buffer .entry))))
         (now (buffer .entry))) ⌝ }
 {
+    let fault = lent_fault(programme, standing);
+    if fault != 0 {
+        return refused(fault, 0, standing);
+    }
     let shares = scale::built_in();
     run_under(&shares, programme, standing, events, buffer)
 }

@@ -42,30 +42,32 @@ module _ {A : Type 0} (figure : A → ℕ) where
         ap (λ (b : Bool). passes n y && b) (chained-snoc (figure y) xs x)
         ∙ sym (and-assoc (passes n y) (chained passes figure (figure y) xs) (passes (lastBy figure (figure y) xs) x))
 
--- a pass over the first k elements of a list, at place i after the figure n: those ahead give the whole answer
-pub record Chaining {A : Type 0} (passes : ℕ → A → Bool) (figure : A → ℕ) (k : ℕ) (l : List A) (n i : ℕ) : Type 0 where
+-- A pass over the first k elements of a list, of which the first is after the figure m, at place i after the figure n:
+-- those ahead give the whole answer.
+pub record Chaining {A : Type 0} (passes : ℕ → A → Bool) (figure : A → ℕ) (m k : ℕ) (l : List A) (n i : ℕ)
+    : Type 0 where
   pub within : i ≤ k
   pub inside : k ≤ length l
-  pub rest : chained passes figure 0 (take k l) ≡ chained passes figure n (slice i k l)
+  pub rest : chained passes figure m (take k l) ≡ chained passes figure n (slice i k l)
 
-pub chain-begins : {A : Type 0} (passes : ℕ → A → Bool) (figure : A → ℕ) (k : ℕ) (l : List A) → k ≤ length l
-    → Chaining passes figure k l 0 0
-chain-begins passes figure k l h = record { within = omega arith; inside = h; rest = refl }
+pub chain-begins : {A : Type 0} (passes : ℕ → A → Bool) (figure : A → ℕ) (m k : ℕ) (l : List A) → k ≤ length l
+    → Chaining passes figure m k l m 0
+chain-begins passes figure m k l h = record { within = omega arith; inside = h; rest = refl }
 
-module _ {A : Type 0} {passes : ℕ → A → Bool} {figure : A → ℕ} {k : ℕ} {l : List A} {n i : ℕ}
-    (g : Chaining passes figure k l n i) where
+module _ {A : Type 0} {passes : ℕ → A → Bool} {figure : A → ℕ} {m k : ℕ} {l : List A} {n i : ℕ}
+    (g : Chaining passes figure m k l n i) where
   module _ (d : A) (h : i < k) where
-    pub chain-next : passes n (getD l i d) ≡ true → Chaining passes figure k l (figure (getD l i d)) (i + 1)
+    pub chain-next : passes n (getD l i d) ≡ true → Chaining passes figure m k l (figure (getD l i d)) (i + 1)
     chain-next p = record {
       within = omega arith;
       inside = g .inside;
       rest = g .rest ∙ rw (slice-cons i k l d h (g .inside), p, add-one i);
     }
 
-    pub chain-stops : passes n (getD l i d) ≡ false → false ≡ chained passes figure 0 (take k l)
+    pub chain-stops : passes n (getD l i d) ≡ false → false ≡ chained passes figure m (take k l)
     chain-stops p = sym (g .rest ∙ rw (slice-cons i k l d h (g .inside), p))
 
-  pub chain-ends : k ≤ i → true ≡ chained passes figure 0 (take k l)
+  pub chain-ends : k ≤ i → true ≡ chained passes figure m (take k l)
   chain-ends h = sym (g .rest ∙ rw (end, slice-empty))
     where
       end : i ≡ k

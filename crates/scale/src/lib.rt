@@ -1,10 +1,16 @@
-// Time shares: the built-in table of 366 days, and the share of a day in any table.
+// Time shares: the built-in table of 366 days, the test of a client's own scale, and the share of a day in any table.
 ghost use mathlib.Core.Path.{_≡_};
 ghost use Prim.Native.Nat.{_-_};
-ghost use Rattle.scale.specs.Scale.{timeShares, shareOn};
+ghost use Rattle.scale.specs.Scale.{timeShares, shareOn, scalePasses};
 
 // The days of a year.
 pub const DAYS: usize = 366;
+
+// The whole, in basis points: no share is above it.
+pub const WHOLE: u64 = 10000;
+
+// Shares that no scale text reads to; a scale text that is short, long, out of form or has a day out of order.
+pub const NOT_A_SCALE: u64 = 28;
 
 // The built-in shares, in basis points: of the days 1 to 366, what is left of the year.
 const SHARES: [u64; DAYS] = [
@@ -402,4 +408,24 @@ pub fn built_in() -> [u64; DAYS]
     ensures { λ r. ⌜ r ≡ timeShares ⌝ }
 {
     SHARES
+}
+
+// Whether lent shares are a scale: those of 366 days, none over the whole, and none above the one before it.
+pub fn passes(shares: &[u64]) -> bool
+    ensures { λ r. ⌜ r ≡ scalePasses (now (shares .entry)) ⌝ }
+{
+    if shares.len() == DAYS {} else {
+        return false;
+    }
+    let mut before = WHOLE;
+    let mut i = 0;
+    while i < shares.len() {
+        let share = shares[i];
+        if before < share {
+            return false;
+        }
+        before = share;
+        i += 1;
+    }
+    true
 }

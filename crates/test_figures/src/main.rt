@@ -1,5 +1,5 @@
-// The checked figures of document 01, and those of document 02 on rates, event limits, the nearest cent and premium by
-// time, computed by the code: a line each, held to the stored output.
+// The checked figures of document 01, and those of document 02 on rates, event limits, the nearest cent, premium by
+// time and the test of a scale, computed by the code: a line each, held to the stored output.
 ghost use mathlib.Core.List.{[], _∷_};
 ghost use mathlib.Core.Path.{_≡_};
 ghost use Prim.Native.Nat.{_+_, _^_, _≤_};
@@ -368,6 +368,31 @@ fn time_figures() {
     premiums(b"time, at once on day 184", by_time(), 1000000, &[184]);
 }
 
+// Whether shares are a scale: 1 for yes, 0 for no.
+fn tested(name: &[u8], shares: &[u64]) {
+    if scale::passes(shares) {
+        line(name, 1);
+    } else {
+        line(name, 0);
+    }
+}
+
+// 7,201 on every day, and one day changed at a time.
+fn scale_figures() {
+    let mut shares = [7201u64; 367];
+    tested(b"scale of 365 days", &shares[..365]);
+    tested(b"scale of 366 days", &shares[..366]);
+    tested(b"scale of 367 days", &shares);
+    shares[365] = 7202;
+    tested(b"scale that rises on the last day", &shares[..366]);
+    shares[365] = 3333;
+    tested(b"scale that falls on the last day", &shares[..366]);
+    shares[0] = 10000;
+    tested(b"scale that begins with the whole", &shares[..366]);
+    shares[0] = 10001;
+    tested(b"scale that begins above the whole", &shares[..366]);
+}
+
 // The catastrophe tier of H1: its layers stand in the first three places.
 fn cat_layers() -> [Layer; tier::PLACES]
     ensures { λ r. ⌜ SoundLayers (take 3 r) ⌝ }
@@ -397,5 +422,6 @@ fn main() {
     layer_figures();
     rate_figures();
     time_figures();
+    scale_figures();
     tier_figures();
 }

@@ -12,10 +12,8 @@ use Rattle.lists.specs.Places.{inPlaces}
 use Rattle.lists.proofs.Cases.{by-test}
 use Rattle.layer.specs.declared.terms.Terms.{Terms}
 use Rattle.layer.specs.declared.record.Layer.{Layer}
-use Rattle.scale.specs.Scale.{Fair}
 use Rattle.programme.specs.declared.contract.Programme.{Programme}
 use Rattle.programme.specs.Contracts.{Contracts, contractsIn}
-use Rattle.programme.specs.Valid.{valid}
 use Rattle.programme.proofs.Lawful.{valid-lawful}
 use Rattle.events.specs.Event.{Event, lastDay}
 use Rattle.year.specs.declared.Standing.{Standing}
@@ -25,7 +23,7 @@ use Rattle.year.specs.History.{Call, standingOfHistory, eventsOfHistory,
 use Rattle.year.specs.History.{spentIn, timedIn}
 use Rattle.year.proofs.Cutting.{cut, cuts}
 use Rattle.year.proofs.Books.{books, termsOfEntries, books-terms}
-use Rattle.year.proofs.Following.{stands, none-places, none-spent, none-timed}
+use Rattle.year.proofs.Following.{runnable, runs-valid, stands, none-places, none-spent, none-timed}
 
 -- amounts in a standing's eight places; only a programme that no table text reads to can have more of them
 abbrev eight : List ℕ → List ℕ
@@ -59,7 +57,7 @@ module _ (held : Layer → ℕ) where
       → inPlaces 0 [] ≡ eight (heldIn (map firstEntry ts))
   nothing-told none ts = none-places held none 8 ts ∙ rw (map-map held cut (map firstEntry ts))
 
-module _ (shares : List ℕ) (fair : Fair shares) (p : Programme) (h : List Call) where
+module _ (shares : List ℕ) (p : Programme) (h : List Call) where
   abbrev c : Contracts
   c = contractsIn p
 
@@ -67,12 +65,12 @@ module _ (shares : List ℕ) (fair : Fair shares) (p : Programme) (h : List Call
   abbrev told : Standing
   told = standingTold (ledgerOfHistory shares p h) (endsOn shares p h)
 
-  by-valid : valid p ≡ true → standingOfHistory shares p h ≡ told
+  by-valid : runnable shares p ≡ true → standingOfHistory shares p h ≡ told
   by-valid v =
-      let g = valid-lawful p v in
+      let g = valid-lawful p (runs-valid shares p v) in
       let l = ledgerOfHistory shares p h in
       let terms = books-terms shares c (eventsOfHistory shares p h) in
-      stands shares fair p h .after v
+      stands shares p h .after v
       ∙ λ i. record {
         risk = tier-told (λ (y : Layer). y .spent .0) (l .risk) (c .risk) (terms risk) (g .few-risk) i;
         cat = tier-told (λ (y : Layer). y .spent .0) (l .cat) (c .cat) (terms cat) (g .few-cat) i;
@@ -81,9 +79,9 @@ module _ (shares : List ℕ) (fair : Fair shares) (p : Programme) (h : List Call
         «cat_timed» = tier-told (λ (y : Layer). y .timed .0) (l .cat) (c .cat) (terms cat) (g .few-cat) i;
       }
 
-  by-invalid : valid p ≡ false → standingOfHistory shares p h ≡ told
+  by-invalid : runnable shares p ≡ false → standingOfHistory shares p h ≡ told
   by-invalid v =
-      let g = stands shares fair p h .none v in
+      let g = stands shares p h .none v in
       g .0
       ∙ (λ i. record {
         risk = nothing-told (λ (y : Layer). y .spent .0) none-spent (c .risk) i;
@@ -94,7 +92,7 @@ module _ (shares : List ℕ) (fair : Fair shares) (p : Programme) (h : List Call
       })
       ∙ ap (λ (es : List Event). standingTold (books shares c es) (lastDay 0 es)) (sym (g .1))
 
-  -- for every programme and every history
+  -- for every programme, every list of shares and every history
   pub standing-told : standingOfHistory shares p h
       ≡ standingTold (ledgerOfHistory shares p h) (endsOn shares p h)
-  standing-told = by-test (valid p) (λ v. by-valid (sym v)) (λ v. by-invalid (sym v))
+  standing-told = by-test (runnable shares p) (λ v. by-valid (sym v)) (λ v. by-invalid (sym v))

@@ -7,6 +7,7 @@ use Prim.Native.Nat.{ℕ}
 use lib.ListN.{length, replicate}
 use Rattle.lists.specs.Places.{inPlaces}
 use Rattle.arith.specs.Round.{rounded}
+use Rattle.scale.specs.Scale.{dayShare, timeShares, scalePasses}
 use Rattle.text.specs.Bytes.{bytes}
 use Rattle.text.specs.Number.{printedBy, printed, digitOf, readOn, number}
 use Rattle.text.specs.Template.{capital, filled, matched, wholeOf, lineNumbers}
@@ -30,7 +31,7 @@ use Rattle.events.specs.Read.{eventsOf, readFrom as eventsFrom}
 use Rattle.year.specs.Event.{subjectOf}
 use Rattle.year.specs.Statement.{statementText}
 use Rattle.year.specs.Standing.{openOf, standingPasses}
-use Rattle.year.specs.Run.{Left, runFrom, runUnder, runOf, standingAfter}
+use Rattle.year.specs.Run.{Left, runBy, runFrom, runUnder, runOf, standingAfter}
 
 -- the table of H1, the run of its event text from an opened year, and the statement that it prints
 abbrev h1-table : List ℕ
@@ -103,7 +104,8 @@ unfolding
     timedPart timedMost yearPremium kindOf ratesText layerNumbers tailTime layerTerms formOfKind formOf outside
     treatyOutside ratesOutside termsOutside treatyNotZero termsNotZero treatyFault layerFault readFrom readOf
     validTreaties validLayers valid closes lossesUpTo eventOf lossOutside eventOutside lacking eventFault eventsOf
-    eventsFrom cededIn subjectOf statementText openOf standingPasses fitted runFrom runUnder
+    eventsFrom cededIn subjectOf statementText openOf standingPasses fitted dayShare timeShares
+    scalePasses runBy runFrom runUnder
 checked = record {
   H1-table = refl;
   H1-opening = refl;

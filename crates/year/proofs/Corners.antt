@@ -7,6 +7,7 @@ use Prim.Native.Nat.{ℕ}
 use Prim.Native.String.{String}
 use lib.ListN.{replicate}
 use Rattle.arith.specs.Round.{rounded}
+use Rattle.scale.specs.Scale.{dayShare, timeShares, scalePasses}
 use Rattle.text.specs.Bytes.{bytes}
 use Rattle.text.specs.Number.{printedBy, printed, digitOf, readOn, number}
 use Rattle.text.specs.Template.{capital, filled, matched}
@@ -27,7 +28,7 @@ use Rattle.year.specs.declared.Standing.{Standing}
 use Rattle.year.specs.Event.{subjectOf}
 use Rattle.year.specs.Statement.{statementText}
 use Rattle.year.specs.Standing.{fresh, standingPasses, openOf}
-use Rattle.year.specs.Run.{Left, runFrom, runUnder, runOf, standingAfter}
+use Rattle.year.specs.Run.{Left, runBy, runFrom, runUnder, runOf, standingAfter}
 use Rattle.year.proofs.Examples.{standing}
 
 -- one treaty, one risk layer with a cap of 3,100 and one catastrophe layer with a cap of 3,000
@@ -124,7 +125,8 @@ unfolding
     rounded printedBy printed digitOf readOn number capital filled matched linesOf placedOf recoveredOf ratedOf
     premiumOf recoveryOf dueFor dueOf timedPart timedMost yearPremium outside treatyOutside ratesOutside termsOutside
     treatyNotZero termsNotZero validTreaties validLayers valid closes lossesUpTo eventOf lossOutside eventOutside
-    lacking eventFault eventsOf readFrom subjectOf statementText standingPasses openOf fitted runFrom runUnder
+    lacking eventFault eventsOf readFrom subjectOf statementText standingPasses openOf fitted dayShare
+    timeShares scalePasses runBy runFrom runUnder
 corners = record {
   invalid = refl;
   invalid-first = refl;

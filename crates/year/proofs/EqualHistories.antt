@@ -1,4 +1,4 @@
--- Demand 3, equal histories, with document 02's Q-4: after two histories under one programme and one list of fair
+-- Demand 3, equal histories, with document 02's Q-4 and Q-12: after two histories under one programme and one list of
 -- shares that end on the same day every later list of runs is answered alike exactly when each layer's spent amount
 -- and each layer's timed premium, by the ledger, are the same.
 -- Assumes nothing.
@@ -19,11 +19,9 @@ use Rattle.layer.specs.declared.terms.Terms.{Terms}
 use Rattle.layer.specs.declared.record.Layer.{Layer}
 use Rattle.layer.specs.Layer.{capOf, timedMost, layerOf, yearPremium}
 use Rattle.layer.proofs.Year.{spent-determined}
-use Rattle.scale.specs.Scale.{Fair}
 use Rattle.answer.specs.Outcome.{Outcome}
 use Rattle.programme.specs.declared.contract.Programme.{Programme}
 use Rattle.programme.specs.Contracts.{contractsIn}
-use Rattle.programme.specs.Valid.{valid}
 use Rattle.programme.proofs.Lawful.{valid-lawful, at-most-eight}
 use Rattle.events.specs.Event.{Event}
 use Rattle.events.proofs.Reading.{read-none}
@@ -43,7 +41,7 @@ use Rattle.year.proofs.Size.{no-events-short}
 use Rattle.year.proofs.Cutting.{cut, cuts, cutYear}
 use Rattle.year.proofs.Books.{books}
 use Rattle.year.proofs.Running.{standingFrom}
-use Rattle.year.proofs.Following.{yearBy, year-under, stands, year-from}
+use Rattle.year.proofs.Following.{runnable, runs-valid, runs-scale, yearBy, year-under, stands, year-from}
 use Rattle.year.proofs.LaterRuns.{later-accepted}
 use Rattle.year.proofs.AfterHistory.{standingTold, standing-told}
 
@@ -130,8 +128,8 @@ same-written t u s r d e =
     same-front (statementText t) (statementText u) (drop (length (statementText t)) d)
     (drop (length (statementText u)) d) (ap (λ (a : Reply). a .answer .number) q) (ap (λ (a : Reply). a .buffer) q)
 
-module _ (shares : List ℕ) (fair : Fair shares) (p : Programme) where
-  module _ (v : valid p ≡ true) where
+module _ (shares : List ℕ) (p : Programme) where
+  module _ (v : runnable shares p ≡ true) where
     -- what a run without events shows after the events es
     abbrev shown : List Event → Statement
     shown es = statementOf shares (contractsIn p .treaties) (yearBy shares p es) []
@@ -139,8 +137,8 @@ module _ (shares : List ℕ) (fair : Fair shares) (p : Programme) where
     shown-short : (es : List Event) → length (statementText (shown es)) ≤ 32768
     shown-short es =
         let c = contractsIn p in
-        let g = valid-lawful p v in
-        let u = year-under shares fair p v es in
+        let g = valid-lawful p (runs-valid shares p v) in
+        let u = year-under shares p v es in
         no-events-short shares (c .treaties) (yearBy shares p es) (at-most-eight c g)
         (passed-numbers 0 (c .treaties) (g .treaties))
         (rw (carries-length (c .risk) (yearBy shares p es .risk) (u .risk)) (g .few-risk))
@@ -158,8 +156,9 @@ module _ (shares : List ℕ) (fair : Fair shares) (p : Programme) where
     unfolding after
     empty-run g room r =
         let ts = contractsIn p .treaties in
-        let first = year-from shares fair p g v in
-        later-accepted shares fair p g v [] room [] (read-none ts (endsOn shares p g))
+        let first = year-from shares p g v in
+        later-accepted shares p g (runs-valid shares p v) (runs-scale shares p v) [] room []
+        (read-none ts (endsOn shares p g))
         (subst (λ (y : Year). length (statementText (statementOf shares ts y [])) ≤ room) (sym first) r)
         ∙ ap
         (λ (y : Year).
@@ -172,8 +171,8 @@ module _ (shares : List ℕ) (fair : Fair shares) (p : Programme) where
     shown-tells es fs e =
         let c = contractsIn p in
         let same = statements-tell (shown es) (shown fs) e in
-        let u = year-under shares fair p v es in
-        let w = year-under shares fair p v fs in
+        let u = year-under shares p v es in
+        let w = year-under shares p v fs in
         let risk = lines-tell (c .risk) (yearBy shares p es .risk) (yearBy shares p fs .risk) (u .risk) (w .risk)
         (ap (λ (t : Statement). t .layers .risk) same) in
         let cat = lines-tell (c .cat) (yearBy shares p es .cat) (yearBy shares p fs .cat) (u .cat) (w .cat)
@@ -227,14 +226,14 @@ module _ (shares : List ℕ) (fair : Fair shares) (p : Programme) where
       → (AlikeIfReal shares p h k → SameSpent shares p h k × SameTimed shares p h k)
       × (SameSpent shares p h k × SameTimed shares p h k → Alike shares p h k)
   equal-histories h k d = (
-    λ alike. by-test (valid p) (λ v. alike-tells (sym v) h k alike) (λ v. nothing (sym v)),
+    λ alike. by-test (runnable shares p) (λ v. alike-tells (sym v) h k alike) (λ v. nothing (sym v)),
     λ same cs. ap (λ (s : Standing). repliesIn shares p s cs)
-        (standing-told shares fair p h ∙ standings (same .0) (same .1) ∙ sym (standing-told shares fair p k)),
+        (standing-told shares p h ∙ standings (same .0) (same .1) ∙ sym (standing-told shares p k)),
   )
     where
-      nothing : valid p ≡ false → SameSpent shares p h k × SameTimed shares p h k
+      nothing : runnable shares p ≡ false → SameSpent shares p h k × SameTimed shares p h k
       nothing f =
-          let none = stands shares fair p h .none f .1 ∙ sym (stands shares fair p k .none f .1) in (
+          let none = stands shares p h .none f .1 ∙ sym (stands shares p k .none f .1) in (
             λ n. ap (λ (es : List Event). spentIn (inTier n (books shares (contractsIn p) es))) none,
             λ n. ap (λ (es : List Event). timedIn (inTier n (books shares (contractsIn p) es))) none,
           )

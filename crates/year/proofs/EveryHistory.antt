@@ -1,4 +1,4 @@
--- Demand 3, every history, under any fair shares: gross = net + ceded + risk + cat; the gross is the G of all losses
+-- Demand 3, every history, under any shares: gross = net + ceded + risk + cat; the gross is the G of all losses
 -- and the ceded what the treaties' formulas cede of them; what each layer and each tier have recovered; and, with
 -- document 02's Q-4, each layer's premium.
 -- Assumes nothing.
@@ -15,10 +15,9 @@ use Rattle.layer.specs.declared.terms.Terms.{Terms}
 use Rattle.layer.specs.declared.record.Layer.{Layer}
 use Rattle.layer.specs.Layer.{recoveredOf, premiumOf, isTimed, timedMost, yearPremium}
 use Rattle.layer.proofs.Recoveries.{recovered-zero}
-use Rattle.scale.specs.Scale.{Fair}
 use Rattle.programme.specs.declared.contract.Programme.{Programme}
 use Rattle.programme.specs.Contracts.{contractsIn}
-use Rattle.programme.proofs.Lawful.{valid-lawful}
+use Rattle.programme.proofs.Lawful.{Lawful, valid-lawful}
 use Rattle.events.specs.Event.{Event}
 use Rattle.year.specs.Tiers.{TierName, risk, cat, inTier}
 use Rattle.year.specs.Event.{Year, yearAfter}
@@ -35,7 +34,8 @@ use Rattle.year.proofs.Books.{first-none, added-none, added-more}
 use Rattle.year.proofs.Balance.{run-balanced, lines-balanced, run-gross, run-ceded, gross-append, ceded-append}
 use Rattle.year.proofs.YearPremiums.{no-premium}
 use Rattle.year.proofs.PremiumGrowth.{yearPremiums, run-premium}
-use Rattle.year.proofs.Following.{yearBy, year-under, history-under, year-more, follow}
+use Rattle.year.proofs.Following.{runnable, runs-valid, runs-fair, yearBy, year-under, history-under}
+use Rattle.year.proofs.Following.{year-more, follow}
 
 -- 0 for each layer of a tier, which is what a history without a statement shows
 abbrev pub noneShown : TierName → Programme → List ℕ
@@ -109,7 +109,7 @@ module _ (figure : LayerLine → ℕ) where
 nothing-recovered : (t : Terms) → layerLineOf (cut (firstEntry t)) .recovered ≡ 0
 nothing-recovered t = ap (recoveredOf t) (nothing-spent t) ∙ recovered-zero t
 
-nothing-due : (t : Terms) → yearPremium (cut (firstEntry t)) ≡ 0
+pub nothing-due : (t : Terms) → yearPremium (cut (firstEntry t)) ≡ 0
 unfolding yearPremium
 nothing-due t = by (isTimed t) (ap (premiumOf t) (nothing-spent t) ∙ no-premium t)
   where
@@ -118,49 +118,52 @@ nothing-due t = by (isTimed t) (ap (premiumOf t) (nothing-spent t) ∙ no-premiu
     by false e = e
 
 -- a fact of each layer of the ledger, of each entry
-each-cut : (P : Layer → Type 0) (es : List Entry) → Each P (cuts es) → Each (λ (e : Entry). P (cut e)) es
+pub each-cut : (P : Layer → Type 0) (es : List Entry) → Each P (cuts es) → Each (λ (e : Entry). P (cut e)) es
 each-cut P [] h = tt
 each-cut P (e ∷ es) h = (h .0, each-cut P es (h .1))
 
-module _ (shares : List ℕ) (fair : Fair shares) (p : Programme) where
+module _ (shares : List ℕ) (p : Programme) where
   abbrev treaties : List Treaty
   treaties = contractsIn p .treaties
+
+  lawful : runnable shares p ≡ true → Lawful (contractsIn p)
+  lawful v = valid-lawful p (runs-valid shares p v)
 
   abbrev entries : TierName → List Event → List Entry
   entries n es = inTier n (books shares (contractsIn p) es)
 
   balanced-after : (h : List Call) → Balanced (summed (statementsOf shares p h))
   balanced-after =
-      follow shares fair p (λ es ts gs s. Balanced (summed ts)) (λ es s g. refl)
+      follow shares p (λ es ts gs s. Balanced (summed ts)) (λ es s g. refl)
       (λ es fs gs ts s text v q ih.
-      let run = run-balanced shares fair (contractsIn p) (valid-lawful p v) (yearBy shares p es) fs
-      (year-under shares fair p v es) in
+      let run = run-balanced shares (runs-fair shares p v) (contractsIn p) (lawful v) (yearBy shares p es) fs
+      (year-under shares p v es) in
       omega (arith, ih, run))
 
   gross-after : (h : List Call) → summed (statementsOf shares p h) .gross ≡ grossIn (eventsOfHistory shares p h)
   gross-after =
-      follow shares fair p (λ es ts gs s. summed ts .gross ≡ grossIn gs) (λ es s g. refl)
+      follow shares p (λ es ts gs s. summed ts .gross ≡ grossIn gs) (λ es s g. refl)
       (λ es fs gs ts s text v q ih.
       omega (arith, ih, run-gross shares treaties (yearBy shares p es) fs, gross-append fs gs))
 
   ceded-after : (h : List Call)
       → summed (statementsOf shares p h) .ceded ≡ cededByAll treaties (eventsOfHistory shares p h)
   ceded-after =
-      follow shares fair p (λ es ts gs s. summed ts .ceded ≡ cededByAll treaties gs)
+      follow shares p (λ es ts gs s. summed ts .ceded ≡ cededByAll treaties gs)
       (λ es s g. omega (arith, ceded-append treaties [] []))
       (λ es fs gs ts s text v q ih.
-      let run = run-ceded shares 0 treaties (valid-lawful p v .treaties) (yearBy shares p es) fs in
+      let run = run-ceded shares 0 treaties (lawful v .treaties) (yearBy shares p es) fs in
       omega (arith, ih, run, ceded-append treaties fs gs))
 
   lines-after : (h : List Call)
       → Each (λ (t : Statement). Each (λ (l : EventLine). Balanced (l .amounts)) (t .events)) (statementsOf shares p h)
   lines-after =
-      follow shares fair p
+      follow shares p
       (λ es ts gs s. Each (λ (t : Statement). Each (λ (l : EventLine). Balanced (l .amounts)) (t .events)) ts)
       (λ es s g. tt)
       (λ es fs gs ts s text v q ih. (
-        lines-balanced shares fair (contractsIn p) (valid-lawful p v) (yearBy shares p es) fs
-            (year-under shares fair p v es),
+        lines-balanced shares (runs-fair shares p v) (contractsIn p) (lawful v) (yearBy shares p es) fs
+            (year-under shares p v es),
         ih,
       ))
 
@@ -168,12 +171,12 @@ module _ (shares : List ℕ) (fair : Fair shares) (p : Programme) where
       → Each (λ (t : Statement). t .total .ceded ≡ sumOf (λ (l : TreatyLine). l .ceded) (t .treaties))
       (statementsOf shares p h)
   treaties-after =
-      follow shares fair p
+      follow shares p
       (λ es ts gs s.
       Each (λ (t : Statement). t .total .ceded ≡ sumOf (λ (l : TreatyLine). l .ceded) (t .treaties)) ts)
       (λ es s g. tt)
       (λ es fs gs ts s text v q ih. (
-        run-ceded shares 0 treaties (valid-lawful p v .treaties) (yearBy shares p es) fs
+        run-ceded shares 0 treaties (lawful v .treaties) (yearBy shares p es) fs
             ∙ sym (sum-map (λ (l : TreatyLine). l .ceded) (treatyLineOf fs) treaties),
         ih,
       ))
@@ -183,7 +186,7 @@ module _ (shares : List ℕ) (fair : Fair shares) (p : Programme) where
       → lastShown (shownBy figure n) (toldBy figure (entries n [])) (statementsOf shares p h)
       ≡ toldBy figure (entries n (eventsOfHistory shares p h))
   shown-after figure n =
-      follow shares fair p
+      follow shares p
       (λ es ts gs s.
       lastShown (shownBy figure n) (toldBy figure (entries n es)) ts ≡ toldBy figure (entries n (es ++ gs)))
       (λ es s g. ap (λ (k : List Event). toldBy figure (entries n k)) (sym (append-nil es)))
@@ -208,7 +211,7 @@ module _ (shares : List ℕ) (fair : Fair shares) (p : Programme) where
       → allRecoveries (entries n []) + recoveriesOfTier n (summed (statementsOf shares p h))
       ≡ allRecoveries (entries n (eventsOfHistory shares p h))
   tiers-after n =
-      follow shares fair p
+      follow shares p
       (λ es ts gs s.
       allRecoveries (entries n es) + recoveriesOfTier n (summed ts) ≡ allRecoveries (entries n (es ++ gs)))
       (λ es s g. omega (arith, added-none n, ap (λ (k : List Event). allRecoveries (entries n k)) (append-nil es)))
@@ -228,7 +231,7 @@ module _ (shares : List ℕ) (fair : Fair shares) (p : Programme) where
       → yearPremiums (yearBy shares p []) + summed (statementsOf shares p h) .premium
       ≡ yearPremiums (yearBy shares p (eventsOfHistory shares p h))
   premium-after =
-      follow shares fair p
+      follow shares p
       (λ es ts gs s.
       yearPremiums (yearBy shares p es) + summed ts .premium ≡ yearPremiums (yearBy shares p (es ++ gs)))
       (λ es s g. omega (arith, ap (λ (k : List Event). yearPremiums (yearBy shares p k)) (append-nil es)))
@@ -236,8 +239,8 @@ module _ (shares : List ℕ) (fair : Fair shares) (p : Programme) where
       omega (
         arith,
         ih,
-        run-premium shares fair (contractsIn p) (valid-lawful p v) (yearBy shares p es) fs
-            (year-under shares fair p v es),
+        run-premium shares (runs-fair shares p v) (contractsIn p) (lawful v) (yearBy shares p es) fs
+            (year-under shares p v es),
         ap yearPremiums (year-more shares p es fs),
         ap (λ (k : List Event). yearPremiums (yearBy shares p k)) (append-assoc es fs gs),
       ))
@@ -255,11 +258,11 @@ module _ (shares : List ℕ) (fair : Fair shares) (p : Programme) where
   timed-after : (n : TierName) (h : List Call)
       → Each (λ (e : Entry). e .timed ≤ timedMost (e .terms) (spentBy e)) (entries n (eventsOfHistory shares p h))
   timed-after risk h =
-      each-cut WithinPremium (entries risk (eventsOfHistory shares p h)) (history-under shares fair p h .risk .timed)
+      each-cut WithinPremium (entries risk (eventsOfHistory shares p h)) (history-under shares p h .risk .timed)
   timed-after cat h =
-      each-cut WithinPremium (entries cat (eventsOfHistory shares p h)) (history-under shares fair p h .cat .timed)
+      each-cut WithinPremium (entries cat (eventsOfHistory shares p h)) (history-under shares p h .cat .timed)
 
-  -- for every programme and every history
+  -- for every programme, every list of shares and every history
   pub every-history : (h : List Call) → Adds shares p h
   every-history h = record {
     balanced = balanced-after h;

@@ -17,7 +17,7 @@ use Rattle.treaty.specs.Treaty.{cededByQuota, cededBySurplus, cededOf, cutToLim
 use Rattle.treaty.specs.Losses.{cededIn}
 use Rattle.layer.specs.Layer.{placedOf, recoveredOf, ratedOf, premiumOf, recoveryOf, dueFor, dueOf, timedPart}
 use Rattle.layer.specs.Layer.{timedMost, yearPremium}
-use Rattle.scale.specs.Scale.{timeShares}
+use Rattle.scale.specs.Scale.{dayShare, timeShares, scalePasses}
 use Rattle.answer.specs.Outcome.{fitted}
 use Rattle.programme.specs.declared.contract.Programme.{Programme}
 use Rattle.programme.specs.Contracts.{contractsIn}
@@ -34,7 +34,7 @@ use Rattle.year.specs.Tiers.{TierName, risk, cat}
 use Rattle.year.specs.Event.{subjectOf}
 use Rattle.year.specs.Statement.{statementText}
 use Rattle.year.specs.Standing.{fresh, standingPasses}
-use Rattle.year.specs.Run.{runFrom, runUnder}
+use Rattle.year.specs.Run.{runBy, runFrom, runUnder}
 use Rattle.year.specs.Ledger.{Entry, recoveryAdded}
 use Rattle.year.specs.History.{Call, Reply, repliesIn, standingOfHistory, statementsOf, ledgerOfHistory, endsOn}
 use Rattle.year.specs.History.{repliesAfter, spentIn, recoveredShown, lastShown, recoveriesIn, recoveredIn}
@@ -218,7 +218,8 @@ unfolding
     timedPart timedMost yearPremium kindOf ratesText layerNumbers tailTime layerTerms formOfKind formOf outside
     treatyOutside ratesOutside termsOutside treatyNotZero termsNotZero treatyFault layerFault readFrom readOf
     validTreaties validLayers valid closes lossesUpTo eventOf statedIn lossOutside eventOutside lacking eventFault
-    eventsOf eventsFrom cededIn subjectOf statementText standingPasses fitted runFrom runUnder recoveryAdded
+    eventsOf eventsFrom cededIn subjectOf statementText standingPasses fitted dayShare timeShares
+    scalePasses runBy runFrom runUnder recoveryAdded
 examples = record {
   replies = refl;
   unmoved = refl;

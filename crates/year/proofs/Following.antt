@@ -1,8 +1,9 @@
--- A history followed run by run, under any fair shares: its standing is that of the ledger's year, and what holds of
--- no run and of one accepted run more in front holds of every history.
+-- A history followed run by run, under any shares: its standing is that of the ledger's year, and what holds of no run
+-- and of one accepted run more in front holds of every history. Shares that no scale text reads to are refused each
+-- time, as is a programme that no table text reads to.
 -- Assumes nothing.
 use mathlib.Core.Path.{_≡_, refl, sym, _∙_, ap, ap₂, subst}
-use mathlib.Core.Bool.{true, false}
+use mathlib.Core.Bool.{Bool, true, false, _&&_}
 use mathlib.Core.List.{List, [], _∷_, _++_, map, map-map, map-id, append-nil, append-assoc}
 use Prim.Native.Nat.{ℕ, zero, suc, _-_, _≤_}
 use native.Mathlib.Omega.{arith}
@@ -10,11 +11,12 @@ use lib.ListN.{length, take, replicate, length-map}
 use lib.Seq.{take-all}
 use Rattle.lists.specs.Places.{inPlaces}
 use Rattle.lists.proofs.Cases.{by-test}
-use Rattle.lists.proofs.Chains.{last-append}
+use Rattle.lists.proofs.Chains.{both, last-append}
 use Rattle.lists.proofs.Each.{each-of, each-map}
 use Rattle.layer.specs.declared.terms.Terms.{Terms}
 use Rattle.layer.specs.declared.record.Layer.{Layer}
-use Rattle.scale.specs.Scale.{Fair}
+use Rattle.scale.specs.Scale.{scalePasses, Fair}
+use Rattle.scale.proofs.Passing.{passes-fair}
 use Rattle.answer.specs.Outcome.{Outcome}
 use Rattle.programme.specs.declared.contract.Programme.{Programme}
 use Rattle.programme.specs.Contracts.{contractsIn}
@@ -76,6 +78,20 @@ first-carries ts = record {
 }
 
 module _ (shares : List ℕ) (p : Programme) where
+  -- whether runs can be accepted: both are read from some text
+  abbrev pub runnable : Bool
+  runnable = valid p && scalePasses shares
+
+  module _ (v : runnable ≡ true) where
+    pub runs-valid : valid p ≡ true
+    runs-valid = both (valid p) (scalePasses shares) v .0
+
+    pub runs-scale : scalePasses shares ≡ true
+    runs-scale = both (valid p) (scalePasses shares) v .1
+
+    pub runs-fair : Fair shares
+    runs-fair = passes-fair shares runs-scale
+
   -- the year of the ledger after events, and its standing
   abbrev pub yearBy : List Event → Year
   yearBy es = cutYear (books shares (contractsIn p) es)
@@ -89,14 +105,14 @@ module _ (shares : List ℕ) (p : Programme) where
       sym (events-cut shares (contractsIn p .treaties) (books shares (contractsIn p) es) fs)
       ∙ ap cutYear (sym (booked-append shares (contractsIn p .treaties) (firstLedger (contractsIn p)) es fs))
 
-  -- the standing after the events es; a programme that no table text reads to has none
+  -- the standing after the events es; where no run can be accepted there are none
   pub record Stands (s : Standing) (es : List Event) : Type 0 where
-    pub after : valid p ≡ true → s ≡ standingBy es
-    pub none : valid p ≡ false → (s ≡ fresh) × (es ≡ [])
+    pub after : runnable ≡ true → s ≡ standingBy es
+    pub none : runnable ≡ false → (s ≡ fresh) × (es ≡ [])
 
   fresh-stands : Stands fresh []
   fresh-stands = record {
-    after = λ v. let g = valid-lawful p v in λ i. record {
+    after = λ v. let g = valid-lawful p (runs-valid v) in λ i. record {
       risk = all-none (λ (y : Layer). y .spent .0) none-spent (contractsIn p .risk) (g .few-risk) i;
       cat = all-none (λ (y : Layer). y .spent .0) none-spent (contractsIn p .cat) (g .few-cat) i;
       day = 0;
@@ -106,19 +122,20 @@ module _ (shares : List ℕ) (p : Programme) where
     none = λ v. (refl, refl);
   }
 
-module _ (shares : List ℕ) (fair : Fair shares) (p : Programme) where
+module _ (shares : List ℕ) (p : Programme) where
   -- the ledger's year is under the contracts: no layer is spent above its cap or charged above its amount premium
   first-under : Under (contractsIn p) (yearBy shares p [])
   first-under = record { risk = first-carries (contractsIn p .risk); cat = first-carries (contractsIn p .cat) }
 
-  pub year-under : valid p ≡ true → (es : List Event) → Under (contractsIn p) (yearBy shares p es)
+  pub year-under : runnable shares p ≡ true → (es : List Event) → Under (contractsIn p) (yearBy shares p es)
   year-under v es =
       let c = contractsIn p in
       subst (Under c) (sym (events-cut shares (c .treaties) (firstLedger c) es))
-      (under-events shares fair c (valid-lawful p v) (yearBy shares p []) es first-under)
+      (under-events shares (runs-fair shares p v) c (valid-lawful p (runs-valid shares p v)) (yearBy shares p []) es
+      first-under)
 
   -- a run that is accepted after the events es: its statement, and the standing after its own events fs
-  module _ (s : Standing) (es fs : List Event) (v : valid p ≡ true) (e : s ≡ standingBy shares p es) where
+  module _ (s : Standing) (es fs : List Event) (v : runnable shares p ≡ true) (e : s ≡ standingBy shares p es) where
     year-is : yearOf (contractsIn p) s ≡ yearBy shares p es
     year-is =
         ap (yearOf (contractsIn p)) e
@@ -144,7 +161,7 @@ module _ (shares : List ℕ) (fair : Fair shares) (p : Programme) where
   module _
       (Φ : List Event → List Statement → List Event → Standing → Type 0)
       (done : (es : List Event) (s : Standing) → Stands shares p s es → Φ es [] [] s)
-      (more : (es fs gs : List Event) (ts : List Statement) (s : Standing) (text : List ℕ) → valid p ≡ true
+      (more : (es fs gs : List Event) (ts : List Statement) (s : Standing) (text : List ℕ) → runnable shares p ≡ true
       → eventsOf (contractsIn p .treaties) (lastDay 0 es) text ≡ events fs → Φ (es ++ fs) ts gs s
       → Φ es (statementOf shares (contractsIn p .treaties) (yearBy shares p es) fs ∷ ts) (fs ++ gs) s) where
     abbrev Holds : List Event → Standing → List Call → Type 0
@@ -163,15 +180,15 @@ module _ (shares : List ℕ) (fair : Fair shares) (p : Programme) where
             (standingIn shares p (standingAfter o s) cs)
         go ih o (stays n w) = ih es s g
         go ih o (moves fs q) =
-            let e : s ≡ standingBy shares p es = g .after (q .programme) in
+            let v : runnable shares p ≡ true = rw (q .programme, q .scale) in
+            let e : s ≡ standingBy shares p es = g .after v in
             let read : eventsOf (contractsIn p .treaties) (lastDay 0 es) (c .text) ≡ events fs =
             ap (λ (r : Standing). eventsOf (contractsIn p .treaties) (r .day) (c .text)) (sym e) ∙ q .read in
             rw (
-              statement-is s es fs (q .programme) e,
+              statement-is s es fs v e,
               read-stated (contractsIn p .treaties) (lastDay 0 es) (c .text) fs read,
             )
-            (more es fs _ _ _ (c .text) (q .programme) read
-            (ih (es ++ fs) _ (standing-moves s es fs (q .programme) e)))
+            (more es fs _ _ _ (c .text) v read (ih (es ++ fs) _ (standing-moves s es fs v e)))
 
     pub follow : (h : List Call)
         → Φ [] (statementsOf shares p h) (eventsOfHistory shares p h) (standingOfHistory shares p h)
@@ -183,15 +200,15 @@ module _ (shares : List ℕ) (fair : Fair shares) (p : Programme) where
       follow (λ es ts gs s. Stands shares p s (es ++ gs)) (λ es s g. rw append-nil g)
       (λ es fs gs ts s text v q ih. rw (← append-assoc es fs gs) ih)
 
-  -- its ledger's year is under the contracts, also of a programme that no table text reads to
+  -- its ledger's year is under the contracts, also where no run can be accepted
   pub history-under : (h : List Call) → Under (contractsIn p) (yearBy shares p (eventsOfHistory shares p h))
   history-under h =
-      by-test (valid p) (λ v. year-under (sym v) (eventsOfHistory shares p h))
+      by-test (runnable shares p) (λ v. year-under (sym v) (eventsOfHistory shares p h))
       (λ v.
       subst (λ (es : List Event). Under (contractsIn p) (yearBy shares p es)) (sym (stands h .none (sym v) .1))
       first-under)
 
   -- the year with which a later run begins
-  pub year-from : (h : List Call) → valid p ≡ true
+  pub year-from : (h : List Call) → runnable shares p ≡ true
       → yearOf (contractsIn p) (standingOfHistory shares p h) ≡ yearBy shares p (eventsOfHistory shares p h)
   year-from h v = year-is (standingOfHistory shares p h) (eventsOfHistory shares p h) [] v (stands h .after v)

@@ -1,5 +1,5 @@
--- After every history of a valid programme under fair shares its standing is never refused: a later run is accepted
--- whenever its text is read after the history's last day and its statement fits the buffer.
+-- After every history of a valid programme under a scale that some text reads to, its standing is never refused: a
+-- later run is accepted whenever its text is read after the history's last day and its statement fits the buffer.
 -- Assumes nothing.
 use mathlib.Core.Path.{_≡_, _∙_, ap}
 use mathlib.Core.Bool.{true}
@@ -8,7 +8,7 @@ use Prim.Native.Nat.{ℕ, _≤_}
 use native.Mathlib.Omega.{arith}
 use lib.ListN.{length}
 use Rattle.lists.proofs.Chains.{last-append}
-use Rattle.scale.specs.Scale.{Fair}
+use Rattle.scale.specs.Scale.{scalePasses}
 use Rattle.programme.specs.declared.contract.Programme.{Programme}
 use Rattle.programme.specs.Contracts.{contractsIn}
 use Rattle.programme.specs.Valid.{valid}
@@ -22,13 +22,13 @@ use Rattle.year.specs.Run.{accepted, runUnder}
 use Rattle.year.specs.History.{Call, standingOfHistory, eventsOfHistory, endsOn}
 use Rattle.year.proofs.Layers.{year-passes}
 use Rattle.year.proofs.Running.{statementFrom, standingFrom, passed-runs}
-use Rattle.year.proofs.Following.{yearBy, year-under, follow, stands}
+use Rattle.year.proofs.Following.{runnable, yearBy, year-under, follow, stands}
 
-module _ (shares : List ℕ) (fair : Fair shares) (p : Programme) where
+module _ (shares : List ℕ) (p : Programme) where
   -- no history ends past day 366
   pub ends-by : (h : List Call) → endsOn shares p h ≤ 366
   ends-by h =
-      follow shares fair p (λ es ts gs s. lastDay 0 es ≤ 366 → lastDay 0 (es ++ gs) ≤ 366)
+      follow shares p (λ es ts gs s. lastDay 0 es ≤ 366 → lastDay 0 (es ++ gs) ≤ 366)
       (λ es s g d. rw append-nil d)
       (λ es fs gs ts s text v q ih d.
       rw (← append-assoc es fs gs)
@@ -36,13 +36,16 @@ module _ (shares : List ℕ) (fair : Fair shares) (p : Programme) where
       (read-days (contractsIn p .treaties) (lastDay 0 es) text fs d q))))
       h (omega arith)
 
-  module _ (h : List Call) (v : valid p ≡ true) where
+  module _ (h : List Call) (v : valid p ≡ true) (f : scalePasses shares ≡ true) where
+    runs : runnable shares p ≡ true
+    runs = rw (v, f)
+
     standing-passes : standingPasses (contractsIn p) (standingOfHistory shares p h) ≡ true
     standing-passes =
         let es = eventsOfHistory shares p h in
-        ap (standingPasses (contractsIn p)) (stands shares fair p h .after v)
+        ap (standingPasses (contractsIn p)) (stands shares p h .after runs)
         ∙ year-passes (contractsIn p) (yearBy shares p es) (endsOn shares p h) (ends-by h)
-        (year-under shares fair p v es)
+        (year-under shares p runs es)
 
     -- for every text and every buffer
     pub later-accepted : (text : List ℕ) (room : ℕ) (es : List Event)
@@ -55,8 +58,9 @@ module _ (shares : List ℕ) (fair : Fair shares) (p : Programme) where
         passed-runs shares p (standingOfHistory shares p h) text room es (record {
           programme = v;
           standing = standing-passes;
+          scale = f;
           read =
-              ap (λ (s : Standing). eventsOf (contractsIn p .treaties) (s .day) text) (stands shares fair p h .after v)
+              ap (λ (s : Standing). eventsOf (contractsIn p .treaties) (s .day) text) (stands shares p h .after runs)
               ∙ read;
           fits = fits;
         })

@@ -21,7 +21,7 @@ use Rattle.layer.specs.Tier.{layersAfter, layersOn, layersThrough}
 use Rattle.layer.specs.Ranges.{Sound, Rising}
 use Rattle.layer.proofs.Tiers.{each-after, each-on}
 use Rattle.scale.specs.Scale.{shareOn, Fair}
-use Rattle.scale.proofs.Table.{fair-on}
+use Rattle.scale.proofs.Passing.{fair-on}
 use Rattle.programme.specs.Contracts.{Contracts}
 use Rattle.programme.specs.Rules.{bandEnd}
 use Rattle.programme.specs.Valid.{layerPasses}

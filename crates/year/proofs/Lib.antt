@@ -5,6 +5,9 @@ pub mod PremiumGrowth
 pub mod Balance
 pub mod PremiumApart
 pub mod Untimed
+pub mod WholeLayers
+pub mod WholeYears
+pub mod NoTime
 pub mod Parts
 pub mod StatementsTell
 pub mod Size
@@ -20,6 +23,9 @@ pub mod AfterHistory
 pub mod LaterRuns
 pub mod EqualHistories
 pub mod EveryHistory
+pub mod NoShare
+pub mod WholeShare
+pub mod ScaleWorked
 pub mod NetExact
 pub mod TwoRuns
 pub mod Checked

@@ -14,7 +14,7 @@ use Rattle.layer.specs.Ranges.{Sound}
 use Rattle.layer.proofs.Records.{sound-on}
 use Rattle.layer.proofs.Through.{onEach, dueEach, due-blind, layers-each, dues-each}
 use Rattle.scale.specs.Scale.{shareOn, Fair}
-use Rattle.scale.proofs.Table.{fair-on}
+use Rattle.scale.proofs.Passing.{fair-on}
 use Rattle.programme.specs.Contracts.{Contracts}
 use Rattle.programme.proofs.Lawful.{Lawful}
 use Rattle.events.specs.Event.{Event}

@@ -9,6 +9,7 @@ use native.Mathlib.Omega.{arith}
 use lib.ListN.{length}
 use Rattle.answer.specs.Outcome.{Outcome, refused}
 use Rattle.answer.proofs.Outcomes.{fits, either-way, left-same}
+use Rattle.scale.specs.Scale.{scalePasses}
 use Rattle.programme.specs.declared.contract.Programme.{Programme}
 use Rattle.programme.specs.Contracts.{Contracts, contractsIn}
 use Rattle.programme.specs.Valid.{valid}
@@ -18,7 +19,7 @@ use Rattle.year.specs.declared.Standing.{Standing}
 use Rattle.year.specs.Event.{yearAfter}
 use Rattle.year.specs.Statement.{Statement, statementOf, statementText}
 use Rattle.year.specs.Standing.{standingOf, yearOf, standingPasses}
-use Rattle.year.specs.Run.{Left, accepted, runThrough, runFrom, runUnder}
+use Rattle.year.specs.Run.{Left, accepted, runThrough, runBy, runFrom, runUnder}
 
 module _ (shares : List ℕ) where
   -- the statement of events from a standing on, and the standing after them
@@ -32,6 +33,7 @@ module _ (shares : List ℕ) where
   pub record Passed (p : Programme) (s : Standing) (text : List ℕ) (room : ℕ) (es : List Event) : Type 0 where
     pub programme : valid p ≡ true
     pub standing : standingPasses (contractsIn p) s ≡ true
+    pub scale : scalePasses shares ≡ true
     pub read : eventsOf (contractsIn p .treaties) (s .day) text ≡ events es
     pub fits : length (statementText (statementFrom (contractsIn p) s es)) ≤ room
 
@@ -43,23 +45,29 @@ module _ (shares : List ℕ) where
   module _ (p : Programme) (s : Standing) (text : List ℕ) (room : ℕ) where
     -- every run is one of the two
     pub ran : Ran p s text room (runUnder shares p s text room)
-    unfolding runUnder runFrom
+    unfolding runUnder runFrom runBy
     ran = by-programme (valid p) refl
       where
-        by-events : valid p ≡ true → standingPasses (contractsIn p) s ≡ true → (r : EventsRead)
-            → eventsOf (contractsIn p .treaties) (s .day) text ≡ r
+        by-events : valid p ≡ true → standingPasses (contractsIn p) s ≡ true → scalePasses shares ≡ true
+            → (r : EventsRead) → eventsOf (contractsIn p .treaties) (s .day) text ≡ r
             → Ran p s text room (runThrough shares (contractsIn p) s room r)
-        by-events v g (turnedDown n w) q = stays n w
-        by-events v g (events es) q =
+        by-events v g f (turnedDown n w) q = stays n w
+        by-events v g f (events es) q =
             either-way room (statementText (statementFrom (contractsIn p) s es)) _ (Ran p s text room)
-            (λ h. moves es (record { programme = v; standing = g; read = q; fits = h })) (λ h. stays 7 _)
+            (λ h. moves es (record { programme = v; standing = g; scale = f; read = q; fits = h })) (λ h. stays 7 _)
 
-        by-standing : valid p ≡ true → (b : Bool) → standingPasses (contractsIn p) s ≡ b
+        by-scale : valid p ≡ true → standingPasses (contractsIn p) s ≡ true → (b : Bool) → scalePasses shares ≡ b
             → Ran p s text room (elim b [
               | true ↦ runThrough shares (contractsIn p) s room (eventsOf (contractsIn p .treaties) (s .day) text)
-              | false ↦ refused 8 0
+              | false ↦ refused 28 0
             ])
-        by-standing v true g = by-events v g (eventsOf (contractsIn p .treaties) (s .day) text) refl
+        by-scale v g true f = by-events v g f (eventsOf (contractsIn p .treaties) (s .day) text) refl
+        by-scale v g false f = stays 28 0
+
+        by-standing : valid p ≡ true → (b : Bool) → standingPasses (contractsIn p) s ≡ b
+            → Ran p s text room
+            (elim b [ true ↦ runBy shares (contractsIn p) s text room | false ↦ refused 8 0 ])
+        by-standing v true g = by-scale v g (scalePasses shares) refl
         by-standing v false g = stays 8 0
 
         by-programme : (b : Bool) → valid p ≡ b
@@ -71,9 +79,10 @@ module _ (shares : List ℕ) where
     pub passed-runs : (es : List Event) → Passed p s text room es
         → runUnder shares p s text room
         ≡ accepted (statementFrom (contractsIn p) s es) (standingFrom (contractsIn p) s es)
-    unfolding runUnder runFrom
+    unfolding runUnder runFrom runBy
     passed-runs es g =
-        simp (runUnder, g .programme) (simp (runFrom, g .standing, g .read) (fits room _ _ (g .fits)))
+        simp (runUnder, g .programme, runFrom, g .standing)
+        (simp (runBy, g .scale, g .read) (fits room _ _ (g .fits)))
 
     -- what an accepted run was accepted for
     pub record Accepted (t : Statement) (s′ : Standing) : Type 0 where

@@ -16,7 +16,7 @@ use Rattle.treaty.specs.Losses.{cededIn}
 use Rattle.layer.specs.declared.terms.Terms.{Terms}
 use Rattle.layer.specs.Layer.{termsOf, layerOf, placedOf, recoveredOf, ratedOf, premiumOf, recoveryOf}
 use Rattle.layer.specs.Layer.{dueFor, dueOf, timedPart, timedMost, yearPremium}
-use Rattle.scale.specs.Scale.{dayShare, timeShares}
+use Rattle.scale.specs.Scale.{dayShare, timeShares, scalePasses}
 use Rattle.answer.specs.Outcome.{fitted, answerOf}
 use Rattle.programme.specs.declared.contract.Programme.{Programme}
 use Rattle.programme.specs.Contracts.{Contracts}
@@ -32,7 +32,7 @@ use Rattle.year.specs.declared.Standing.{Standing}
 use Rattle.year.specs.Event.{Year, subjectOf}
 use Rattle.year.specs.Statement.{EventLine, LayerLine, Statement, statementOf, statementText}
 use Rattle.year.specs.Standing.{fresh, standingOf, yearOf, standingPasses}
-use Rattle.year.specs.Run.{runFrom, runUnder, runOf, standingAfter}
+use Rattle.year.specs.Run.{runBy, runFrom, runUnder, runOf, standingAfter}
 use Rattle.year.specs.Ledger.{Entry, recoveryAdded, dueAdded}
 use Rattle.year.specs.History.{Call, repliesIn, repliesAfter, standingOfHistory, ledgerOfHistory}
 use Rattle.year.specs.Tiers.{risk, cat}
@@ -331,7 +331,8 @@ unfolding
     yearPremium dayShare timeShares kindOf ratesText layerNumbers tailTime layerTerms formOfKind formOf outside
     treatyOutside ratesOutside termsOutside treatyNotZero termsNotZero treatyFault layerFault readFrom readOf
     validTreaties validLayers valid closes lossesUpTo eventOf statedIn lossOutside eventOutside lacking eventFault
-    eventsOf eventsFrom subjectOf statementText standingPasses fitted runFrom runUnder recoveryAdded dueAdded
+    eventsOf eventsFrom subjectOf statementText standingPasses fitted scalePasses runBy runFrom runUnder
+    recoveryAdded dueAdded
 kept = record {
   replies = refl;
   standing = refl;

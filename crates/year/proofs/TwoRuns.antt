@@ -9,7 +9,7 @@ use lib.ListN.{length}
 use Rattle.lists.proofs.Chains.{last-append}
 use Rattle.text.proofs.Cuts.{WholeLines}
 use Rattle.treaty.specs.declared.Treaty.{Treaty}
-use Rattle.scale.specs.Scale.{Fair}
+use Rattle.scale.proofs.Passing.{passes-fair}
 use Rattle.programme.specs.declared.contract.Programme.{Programme}
 use Rattle.programme.specs.Contracts.{Contracts, contractsIn}
 use Rattle.programme.proofs.Lawful.{valid-lawful}
@@ -42,7 +42,7 @@ pub record InTwo (shares : List ℕ) (p : Programme) (s : Standing) (a b : List 
   pub layers : whole .layers ≡ second .layers
   pub total : whole .total ≡ added (first .total ∷ second .total ∷ [])
 
-module _ (shares : List ℕ) (fair : Fair shares) (p : Programme) (s : Standing) (a b : List ℕ) (w : WholeLines a) where
+module _ (shares : List ℕ) (p : Programme) (s : Standing) (a b : List ℕ) (w : WholeLines a) where
   -- the events es of the whole text
   events-in-two : (room : ℕ) (es : List Event) → Passed shares p s (a ++ b) room es
       → InTwo shares p s a b (statementFrom shares (contractsIn p) s es) (standingFrom shares (contractsIn p) s es)
@@ -51,11 +51,18 @@ module _ (shares : List ℕ) (fair : Fair shares) (p : Programme) (s : Standing)
     middle = middle;
     second = statementFrom shares c middle (k .second);
     first-run = λ r h. passed-runs shares p s a r (k .first)
-        (record { programme = g .programme; standing = g .standing; read = k .reads-first; fits = h });
+        (record {
+          programme = g .programme;
+          standing = g .standing;
+          scale = g .scale;
+          read = k .reads-first;
+          fits = h;
+        });
     second-run = λ r h. passed-runs shares p middle b r (k .second)
         (record {
           programme = g .programme;
           standing = year-passes c y d (read-days ts (s .day) a (k .first) (u .1) (k .reads-first)) under;
+          scale = g .scale;
           read = k .reads-second;
           fits = h;
         })
@@ -91,7 +98,9 @@ module _ (shares : List ℕ) (fair : Fair shares) (p : Programme) (s : Standing)
       d = lastDay (s .day) (k .first)
 
       under : Under c y
-      under = under-events shares fair c (valid-lawful p (g .programme)) (yearOf c s) (k .first) (u .0)
+      under =
+          under-events shares (passes-fair shares (g .scale)) c (valid-lawful p (g .programme)) (yearOf c s) (k .first)
+          (u .0)
 
       middle : Standing
       middle = standingOf y d

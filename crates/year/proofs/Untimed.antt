@@ -1,5 +1,5 @@
--- Document 02, Q-4: under a programme without a layer that has (time) the shares do not matter: every run comes to the
--- same by any two lists of shares, which may hold anything.
+-- Document 02, Q-4 and Q-12: under a programme without a layer that has (time) the shares do not matter: every run
+-- comes to the same by any two lists of shares, whatever these are, where scale texts read to both or to neither.
 -- Assumes nothing.
 use mathlib.Core.Path.{_≡_, refl, sym, ap, _∙_}
 use mathlib.Core.Bool.{true, false}
@@ -13,7 +13,7 @@ use Rattle.layer.specs.declared.record.Layer.{Layer}
 use Rattle.layer.specs.Layer.{isTimed, chargedSince, dueOf, withDue, afterSubject, dueBy}
 use Rattle.layer.specs.Tier.{layersAfter, layersOn, layersThrough, duesBy, duesThrough}
 use Rattle.layer.proofs.Dues.{due-plain}
-use Rattle.scale.specs.Scale.{shareOn}
+use Rattle.scale.specs.Scale.{shareOn, scalePasses}
 use Rattle.answer.specs.Outcome.{Outcome, refused}
 use Rattle.programme.specs.declared.contract.Programme.{Programme}
 use Rattle.programme.specs.Contracts.{Contracts, contractsIn}
@@ -24,7 +24,7 @@ use Rattle.year.specs.declared.Standing.{Standing}
 use Rattle.year.specs.Event.{Year, leftByTreaties, subjectOf, eventAfter, eventAmounts, yearAfter}
 use Rattle.year.specs.Statement.{eventLines, treatyLineOf, layerLineOf, totals, statementOf}
 use Rattle.year.specs.Standing.{standingOf, layersWith, yearOf, standingPasses}
-use Rattle.year.specs.Run.{Left, statementFitted, runThrough, runFrom, runUnder}
+use Rattle.year.specs.Run.{Left, statementFitted, runThrough, runBy, runFrom, runUnder}
 
 -- no layer of some terms has (time), and none of a tier
 abbrev pub NoneTimed : List Terms → Type 0
@@ -149,7 +149,8 @@ module _ (shares others : List ℕ) (ts : List Treaty) where
 
 -- for every programme without such a layer, every standing, text and buffer
 module _ (shares others : List ℕ) (p : Programme) (risk : NoneTimed (contractsIn p .risk))
-    (cat : NoneTimed (contractsIn p .cat)) (s : Standing) (text : List ℕ) (room : ℕ) where
+    (cat : NoneTimed (contractsIn p .cat)) (alike : scalePasses shares ≡ scalePasses others) (s : Standing)
+    (text : List ℕ) (room : ℕ) where
   abbrev c : Contracts
   c = contractsIn p
 
@@ -166,12 +167,16 @@ module _ (shares others : List ℕ) (p : Programme) (risk : NoneTimed (contracts
       let year = year-same shares others (c .treaties) (yearOf c s) es plain in
       λ i. statementFitted room (statement i) (standingOf (year i) (lastDay (s .day) es))
 
-  from : runFrom shares c s text room ≡ runFrom others c s text room
-  unfolding runFrom
-  from =
-      ap (λ (o : Outcome Left). elim (standingPasses c s) [ true ↦ o | false ↦ refused 8 0 ])
-      (through (eventsOf (c .treaties) (s .day) text))
+  by : runBy shares c s text room ≡ runBy others c s text room
+  unfolding runBy
+  by =
+      let run = through (eventsOf (c .treaties) (s .day) text) in
+      λ i. elim (alike i) [ true ↦ run i | false ↦ refused 28 0 ]
 
   pub shares-apart : runUnder shares p s text room ≡ runUnder others p s text room
-  unfolding runUnder
-  shares-apart = ap (λ (o : Outcome Left). elim (valid p) [ true ↦ o | false ↦ refused 6 0 ]) from
+  unfolding runUnder runFrom
+  shares-apart =
+      ap
+      (λ (o : Outcome Left).
+      elim (valid p) [ true ↦ elim (standingPasses c s) [ true ↦ o | false ↦ refused 8 0 ] | false ↦ refused 6 0 ])
+      by

@@ -1,5 +1,5 @@
--- Document 01, The year, first paragraph, with document 02's Q-4: histories, lists of runs under one programme and one
--- table of time shares from a fresh year, and later lists of runs.
+-- Document 01, The year, first paragraph, with document 02's Q-4 and Q-12: histories, lists of runs under one programme
+-- and one scale of time shares from a fresh year, and later lists of runs.
 -- Assumes nothing.
 use mathlib.Core.Bool.{Bool, true, false}
 use mathlib.Core.Path.{_≡_}

@@ -1,13 +1,14 @@
 -- Document 01, When a call is turned down: "Running, in this order: 6; 8 ..; 9 .. Then line by line .. Then 7,
 -- statement longer than the buffer. The second number is 0 with 6, 8 and 9, the line with 10 to 14, the needed length
 -- with 7. .. All lines are examined before a byte is written or the standing moves. .. A success returns the length of
--- the text written; the bytes past it are unchanged." A refusal leaves standing and buffer as lent.
+-- the text written; the bytes past it are unchanged." A refusal leaves standing and buffer as lent. Document 02, Q-12:
+-- 28 "is, after 6 and 8 and before 9, a run .. lent a scale no text reads to".
 -- Assumes nothing.
 use mathlib.Core.Bool.{true, false}
 use mathlib.Core.List.{List}
 use Prim.Native.Nat.{ℕ}
 use Rattle.answer.specs.Outcome.{Outcome, refused, written, fitted}
-use Rattle.scale.specs.Scale.{timeShares}
+use Rattle.scale.specs.Scale.{timeShares, scalePasses}
 use Rattle.programme.specs.declared.contract.Programme.{Programme}
 use Rattle.programme.specs.Contracts.{Contracts, contractsIn}
 use Rattle.programme.specs.Valid.{valid}
@@ -38,18 +39,23 @@ runThrough shares c s room (events es) =
     statementFitted room (statementOf shares (c .treaties) (yearOf c s) es)
     (standingOf (yearAfter shares (c .treaties) (yearOf c s) es) (lastDay (s .day) es))
 
--- the contracts from a standing on: 8, a standing that breaks a rule; then the events text
+-- the contracts from a standing on, by a scale: 28, where no scale text reads to the shares; then the events text
+unfoldable pub runBy : (shares : List ℕ) → Contracts → Standing → (text : List ℕ) (room : ℕ) → Outcome Left
+runBy shares c s text room =
+    elim (scalePasses shares)
+    [ true ↦ runThrough shares c s room (eventsOf (c .treaties) (s .day) text) | false ↦ refused 28 0 ]
+
+-- before it 8, a standing that breaks a rule
 unfoldable pub runFrom : (shares : List ℕ) → Contracts → Standing → (text : List ℕ) (room : ℕ) → Outcome Left
 runFrom shares c s text room =
-    elim (standingPasses c s)
-    [ true ↦ runThrough shares c s room (eventsOf (c .treaties) (s .day) text) | false ↦ refused 8 0 ]
+    elim (standingPasses c s) [ true ↦ runBy shares c s text room | false ↦ refused 8 0 ]
 
--- a run that charges by some time shares: 6 first, where no table text reads to the programme
+-- a run that is lent time shares: 6 first, where no table text reads to the programme
 unfoldable pub runUnder : (shares : List ℕ) → Programme → Standing → (text : List ℕ) (room : ℕ) → Outcome Left
 runUnder shares p s text room =
     elim (valid p) [ true ↦ runFrom shares (contractsIn p) s text room | false ↦ refused 6 0 ]
 
--- a run: by the built-in shares
+-- a run that is lent none: it is the one that is lent the built-in shares
 abbrev pub runOf : Programme → Standing → (text : List ℕ) (room : ℕ) → Outcome Left
 runOf p s text room = runUnder timeShares p s text room
 

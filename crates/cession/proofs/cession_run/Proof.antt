@@ -36,7 +36,7 @@ use Rattle.engine.proofs.run.run as by-value
 use Rattle.engine.proofs.run.run.Symbol as by-value-def
 use Rattle.engine.proofs.run.run.Symbol.{name as #engine·run}
 use Rattle.engine.proofs.run.run.Met as by-value-thm
-use Rattle.cession.proofs.Values.{programme-vals, standing-vals}
+use Rattle.cession.proofs.Values.{programme-vals, standing-vals, answer-of, standing-of}
 use Rattle.cession.proofs.cession_run.Key.{name as #cession·run}
 use Rattle.cession.proofs.cession_run as run
 use Rattle.cession.proofs.cession_run.Statement as stated
@@ -51,14 +51,6 @@ stayed = (
     (stay-dropped (shrSliceOf (1 ∷ []) tt (plain (λ _. u8))) yes, (gave-slice (2 ∷ []) tt (plain (λ _. u8)), tt)),
   ),
 )
-
--- what whoever holds a `Ran` knows of its parts
-answer-of : (r : Ran) (w : Val) → Is R.the-row r (w ∷ [])
-    → Is N.the-row (r .answer) (LL.vals N.the-type N′.the-laws (r .answer))
-answer-of r w g = LL.owed R.the-type R′.the-laws r _ g .0
-
-standing-of : (r : Ran) (w : Val) → Is R.the-row r (w ∷ []) → Is S.the-row (r .standing) (standing-vals (r .standing))
-standing-of r w g = LL.owed R.the-type R′.the-laws r _ g .1 .0
 
 -- the contract of the run by value
 abbrev Runs : {M : Type 1} (𝓤 : URA M) (H : Heap 𝓤) (A : Atoms 𝓤) (at-mem : Memory → SProp 𝓤)

@@ -33,6 +33,7 @@ use Rattle.client.specs.declared.After.{After}
 use Rattle.client.specs.After.{afterOf}
 use Rattle.client.proofs.After as R
 use Rattle.client.proofs.After.Laws as R′
+use Rattle.client.proofs.Given.{after-vals, after, after-is}
 use Rattle.cession.proofs.Values.{programme-vals, standing-vals}
 use Rattle.cession.proofs.cession_run as run
 use Rattle.cession.proofs.cession_run.Symbol as run-def
@@ -53,24 +54,10 @@ stayed = (
   ),
 )
 
--- the machine values of an answer with a standing
-abbrev after-vals : After → List Val
-after-vals = LL.vals R.the-type R′.the-laws
-
 -- the contract of the run that is lent a standing
 abbrev Runs : {M : Type 1} (𝓤 : URA M) (H : Heap 𝓤) (A : Atoms 𝓤) (at-mem : Memory → SProp 𝓤)
     (exec : Routine → Fun 𝓤) → Contract 𝓤
 Runs 𝓤 H A at-mem exec = tripleOf 𝓤 H A run.signature (run.spec 𝓤 H A at-mem exec)
-
--- what is given back: an answer and a standing
-abbrev after : Answer → Standing → After
-after n t = record { answer = n; standing = t }
-
-after-is : (n : Answer) (w : Val) (t : Standing) → Is N.the-row n (w ∷ []) → Is S.the-row t (standing-vals t)
-    → Is R.the-row (after n t) (after-vals (after n t))
-after-is n w t gn gt =
-    LL.owes R.the-type R′.the-laws (after n t)
-    (LL.owes N.the-type N′.the-laws n (LL.owed N.the-type N′.the-laws n _ gn), (gt, tt))
 
 module _ {M : Type 1} (𝓤 : URA M) (H : Heap 𝓤) (A : Atoms 𝓤) (W : Given 𝓤 H A) (at-mem : Memory → SProp 𝓤)
     (exec : Routine → Fun 𝓤) (κ₁ κ₂ : Lft) (q₁ q₂ : Share) (p : Programme) (h : Standing) (e z : RefT (List ℕ))

@@ -2,7 +2,8 @@
 -- Assumes nothing.
 use borrow.Author.Needs.{needs}
 use Rattle.scale.specs.Scale.{timeShares}
-use Rattle.scale.proofs.Table.{shares-fair, fair-on}
+use Rattle.scale.proofs.Passing.{fair-on}
+use Rattle.scale.proofs.Table.{shares-fair}
 use Rattle.test_figures.proofs.share.Statement.{statement}
 use Rattle.test_figures.proofs.share.Tie as tie
 

@@ -11,13 +11,13 @@ use Rattle.programme.proofs.valid.treaties_pass.Statement.{statement}
 use Rattle.programme.proofs.valid.treaties_pass.Tie as tie
 
 abbrev Inv-loop : tie.InvT-loop
-Inv-loop count places before₀ i₀ before i = Chaining treatyPasses treatyNumber count places before i
+Inv-loop count places before₀ i₀ before i = Chaining treatyPasses treatyNumber 0 count places before i
 
 abbrev μ-loop : tie.MeasureT-loop
 μ-loop count places before₀ i₀ before i = count - i
 
 loop-holds : tie.Need-loop-holds Inv-loop μ-loop
-loop-holds c = chain-begins _ _ _ _ (omega (arith, c .good .0 .1 .0 .1, c .pre))
+loop-holds c = chain-begins _ _ _ _ _ (omega (arith, c .good .0 .1 .0 .1, c .pre))
 
 mul-treaty : tie.Need-mul-treaty Inv-loop μ-loop
 mul-treaty c = search needs

@@ -1,0 +1,4 @@
+pub mod LinePass
+pub mod ScaleBack
+pub mod SameScale
+pub mod Corners
