@@ -13,10 +13,11 @@ pub struct Case {
 // A case's name, and the case, drawn when it is asked for.
 type Named = (&'static str, fn() -> Case);
 
-pub const CASES: [Named; 16] = [
+pub const CASES: [Named; 17] = [
     ("full", || Case::new(full_table(), [full_text(MIXED)])),
     ("two-rates", || Case::new(two_rates_table(), [full_text(MIXED)])),
     ("timed", || Case::new(timed_table(), [full_text(MIXED)])),
+    ("scaled", || Case::scaled(timed_table(), [full_text(MIXED)])),
     ("unreached", || Case::new(unreached_table(), [full_text(MIXED)])),
     ("open", || Case::new(open_table(), [full_text(MIXED)])),
     ("quota", || Case::new(quota_table(0, 0), [full_text(CEDED)])),
@@ -36,6 +37,12 @@ impl Case {
     pub fn new(table: String, texts: impl IntoIterator<Item = String>) -> Case {
         let texts = texts.into_iter().map(String::into_bytes).collect();
         Case { sides: Sides::new(table.as_bytes()), texts }
+    }
+
+    // The same, and a scale by steps is lent to each run.
+    fn scaled(table: String, texts: impl IntoIterator<Item = String>) -> Case {
+        let scale = include_bytes!("../examples/short-period-scale/scale.txt");
+        Case { sides: Sides::scaled(table.as_bytes(), scale), ..Case::new(table, texts) }
     }
 
     // The full table with a text of just so many bytes, most of it in events of eight losses.

@@ -9,7 +9,12 @@ by byte, so that its share of the instructions is not its share of the time.
 import subprocess
 import sys
 
-OUTERMOST = {"engine": "cession_run", "exact": "cession_run", "yardstick": "run_events::yardstick::run"}
+
+def outermost(case, side):
+    """The outermost function of a side. The engine has one for runs that are lent a scale."""
+    if side == "yardstick":
+        return "run_events::yardstick::run"
+    return "cession_run_scaled" if case == "scaled" else "cession_run"
 
 
 def by_function(path):
@@ -34,12 +39,13 @@ def by_function(path):
 def count(program, folder, case, side):
     """All instructions of a run, and those of them in memset."""
     path = f"{folder}/callgrind.{case}.{side}"
-    options = ["--tool=callgrind", f"--toggle-collect={OUTERMOST[side]}", f"--callgrind-out-file={path}"]
+    function = outermost(case, side)
+    options = ["--tool=callgrind", f"--toggle-collect={function}", f"--callgrind-out-file={path}"]
     subprocess.run(["valgrind", "-q", *options, program, "count", case, side], check=True)
     counts = by_function(path)
     total = sum(counts.values())
     if total == 0:
-        sys.exit(f"count.py: nothing counted in {path}: is {OUTERMOST[side]} there?")
+        sys.exit(f"count.py: nothing counted in {path}: is {function} there?")
     return total, sum(number for name, number in counts.items() if "memset" in name)
 
 

@@ -1,6 +1,7 @@
 // Random years that are accepted, run on both sides, and what they have reached.
 use crate::draw::{self, Table};
 use crate::random::Random;
+use crate::scales;
 use crate::sides::{Rooms, Sides, Year};
 use crate::totals::totals;
 
@@ -9,7 +10,7 @@ const YEARS: usize = 1_000;
 const SCALES: [u64; 6] = [100, 10_000, 1_000_000, 1_000_000_000, 1_000_000_000_000, draw::LARGEST_AMOUNT];
 
 // In how many of the runs compared something was above 0, a layer came to its cap, began partly spent, or was charged
-// by time.
+// by time, and of these in how many under a scale.
 #[derive(Default)]
 struct Reached {
     runs: usize,
@@ -21,6 +22,7 @@ struct Reached {
     second_runs: usize,
     partly_spent: usize,
     timed: usize,
+    scaled: usize,
 }
 
 impl Reached {
@@ -47,6 +49,7 @@ impl Reached {
             ("second runs", self.second_runs),
             ("layers partly spent before them", self.partly_spent),
             ("layers charged by time", self.timed),
+            ("under a scale", self.scaled),
         ];
         for (name, count) in named {
             assert!(count > 0, "no random year reached: {name}");
@@ -68,10 +71,21 @@ fn draw_table(random: &mut Random, scale: u64) -> Table {
     }
 }
 
+// A table's sides, half of them under a scale that is drawn.
+fn draw_sides(random: &mut Random, table: &Table) -> Sides {
+    let text = table.lines.concat();
+    if random.one_in(2) {
+        return Sides::new(&text);
+    }
+    let kind = random.place(scales::KINDS.len());
+    let shares = scales::shares(random, kind);
+    Sides::scaled(&text, &scales::lines(&shares).concat())
+}
+
 fn compare_year(random: &mut Random, rooms: &mut Rooms, reached: &mut Reached) {
     let scale = random.pick(&SCALES);
     let table = draw_table(random, scale);
-    let sides = Sides::new(&table.lines.concat());
+    let sides = draw_sides(random, &table);
     let mut year = Year::default();
     for run in 1..=random.between(1, 3) {
         let (count, pause) = (random.pick(&[0, 1, 2, 3, 5, 8, 13, 21]), random.between(0, 40));
@@ -80,7 +94,9 @@ fn compare_year(random: &mut Random, rooms: &mut Rooms, reached: &mut Reached) {
         let (begins_partly_spent, timed) = (sides.has_partly_spent(&year), year.timed());
         let statement = sides.compare(&mut year, &events, rooms);
         reached.count(statement, run > 1, begins_partly_spent);
-        reached.timed += usize::from(year.timed() > timed);
+        let is_charged = year.timed() > timed;
+        reached.timed += usize::from(is_charged);
+        reached.scaled += usize::from(is_charged && sides.is_scaled());
     }
 }
 

@@ -10,6 +10,9 @@
 #[allow(dead_code)] // of the second calculation only the reading of tables is used here
 mod calculation;
 mod cases;
+#[path = "../tests/shared/damage.rs"]
+#[allow(dead_code)] // only the drawing of scales stands on it here
+mod damage;
 #[path = "../tests/shared/draw.rs"]
 #[allow(dead_code)] // the tests call the rest
 mod draw;
@@ -21,6 +24,9 @@ mod random;
 #[path = "../bindings/rust/src/raw.rs"]
 #[allow(dead_code)] // opening and writing are not measured here
 mod raw;
+#[path = "../tests/shared/scales.rs"]
+#[allow(dead_code)] // the tests call the rest
+mod scales;
 mod sides;
 mod stack;
 mod texts;

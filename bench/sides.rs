@@ -1,15 +1,16 @@
 // The two sides of the benchmark of runs: the engine through its C call, and the yardstick.
 use crate::calculation;
 use crate::raw;
-use crate::yardstick;
+use crate::yardstick::{self, Shares};
 
 // Lent in every run: it holds the longest statement of all cases.
 pub const ROOM: usize = 4 << 20;
 
-// A table as each side takes it.
+// A table as each side takes it, and the shares of a scale, if one is lent to the engine.
 pub struct Sides {
     engine: raw::Programme,
     yardstick: yardstick::Programme,
+    scale: Option<Shares>,
 }
 
 // A year as each side keeps it.
@@ -47,12 +48,27 @@ impl Sides {
         let reading = unsafe { raw::cession_read(table.as_ptr(), table.len()) };
         assert_eq!(reading.refusal, 0, "{}", String::from_utf8_lossy(table));
         let second = calculation::read_table(table).expect("a table");
-        Sides { engine: reading.programme, yardstick: yardstick::Programme::new(&second) }
+        Sides { engine: reading.programme, yardstick: yardstick::Programme::new(&second), scale: None }
+    }
+
+    // The same under the scale of a text.
+    pub fn scaled(table: &[u8], scale: &[u8]) -> Sides {
+        let reading = unsafe { raw::cession_read_scale(scale.as_ptr(), scale.len()) };
+        assert_eq!(reading.refusal, 0, "{}", String::from_utf8_lossy(scale));
+        Sides { scale: Some(reading.scale.shares), ..Sides::new(table) }
+    }
+
+    pub fn is_scaled(&self) -> bool {
+        self.scale.is_some()
     }
 
     pub fn answer(&self, standing: &mut raw::Standing, events: &[u8], buffer: &mut [u8]) -> raw::Answer {
-        let (text, room) = (events.as_ptr(), buffer.as_mut_ptr());
-        unsafe { raw::cession_run(self.engine, standing, text, events.len(), room, buffer.len()) }
+        let (text, size, room, length) = (events.as_ptr(), events.len(), buffer.as_mut_ptr(), buffer.len());
+        let Some(shares) = &self.scale else {
+            return unsafe { raw::cession_run(self.engine, standing, text, size, room, length) };
+        };
+        let (first, days) = (shares.as_ptr(), shares.len());
+        unsafe { raw::cession_run_scaled(self.engine, standing, first, days, text, size, room, length) }
     }
 
     // A run of the engine's that is accepted; gives the statement's length.
@@ -63,7 +79,8 @@ impl Sides {
     }
 
     pub fn by_yardstick(&self, standing: &mut yardstick::Standing, events: &[u8], buffer: &mut [u8]) -> usize {
-        yardstick::run(&self.yardstick, standing, events, buffer)
+        let shares = self.scale.as_ref().unwrap_or(&yardstick::BUILT_IN);
+        yardstick::run(&self.yardstick, standing, shares, events, buffer)
     }
 
     // Whether some layer has been brought losses and is below its cap.

@@ -1,6 +1,6 @@
 //! The yardstick: a run of events as an ordinary fast Rust program does it, in one pass over the text and without
-//! allocating. It trusts what it is given: a programme that a table reads to, a standing of that programme, an events
-//! text that is accepted, and a buffer that holds the statement.
+//! allocating. It trusts what it is given: a programme that a table reads to, a standing of that programme, time shares
+//! that a scale reads to, an events text that is accepted, and a buffer that holds the statement.
 
 mod layers;
 mod programme;
@@ -25,13 +25,16 @@ const POWERS: [u64; 20] = {
     powers
 };
 
-/// The time share of each day, which begins with day 0.
-const SHARES: [u64; 367] = {
-    let mut shares = [0; 367];
-    let mut day = 1;
-    while day < shares.len() {
-        shares[day] = WHOLE * (366 - day as u64) / 365;
-        day += 1;
+/// The time shares of the days 1 to 366.
+pub type Shares = [u64; 366];
+
+/// The built-in ones.
+pub const BUILT_IN: Shares = {
+    let mut shares = [0; 366];
+    let mut place = 0;
+    while place < shares.len() {
+        shares[place] = WHOLE * (365 - place as u64) / 365;
+        place += 1;
     }
     shares
 };
@@ -80,10 +83,9 @@ impl Run<'_> {
     /// the event: one loss's recovery is the figure after it less the figure before it, so the differences add up. Of
     /// layers with `(time)`, if there are any, it is taken with each loss.
     #[inline(always)]
-    fn event<const TIMED: bool>(&mut self, day: u64, text: &mut Reader) -> Amounts {
+    fn event<const TIMED: bool>(&mut self, share: u64, text: &mut Reader) -> Amounts {
         let mut amounts = Amounts::default();
         let mut taken = [0; NUMBERS];
-        let share = if TIMED { SHARES[day as usize] } else { WHOLE };
         while let Some(loss) = text.loss() {
             let ceded = self.programme.treaties[loss.treaty].ceded(&loss, taken[loss.treaty]);
             taken[loss.treaty] += ceded;
@@ -116,6 +118,7 @@ impl Run<'_> {
     #[inline(always)]
     fn events<'b, const TIMED: bool>(
         &mut self,
+        shares: &Shares,
         text: &[u8],
         statement: Writer<'b>,
         last_day: &mut u64,
@@ -123,7 +126,8 @@ impl Run<'_> {
         let (mut text, mut statement) = (Reader(text), statement);
         let mut total = Amounts::default();
         while let Some(day) = text.event() {
-            let amounts = self.event::<TIMED>(day, &mut text);
+            let share = if TIMED { shares[day as usize - 1] } else { WHOLE };
+            let amounts = self.event::<TIMED>(share, &mut text);
             total.add(&amounts);
             statement = statement.event(day, &amounts);
             *last_day = day;
@@ -146,9 +150,16 @@ impl Run<'_> {
     }
 }
 
-/// Runs an events text, moves the standing on, writes the statement into the buffer and gives its length.
+/// Runs an events text under time shares, moves the standing on, writes the statement into the buffer and gives its
+/// length.
 #[inline(never)]
-pub fn run(programme: &Programme, standing: &mut Standing, events: &[u8], buffer: &mut [u8]) -> usize {
+pub fn run(
+    programme: &Programme,
+    standing: &mut Standing,
+    shares: &Shares,
+    events: &[u8],
+    buffer: &mut [u8],
+) -> usize {
     let mut run = Run {
         programme,
         ceded: [0; NUMBERS],
@@ -157,8 +168,8 @@ pub fn run(programme: &Programme, standing: &mut Standing, events: &[u8], buffer
     };
     let room = buffer.len();
     let (statement, total) = match programme.has_timed {
-        true => run.events::<true>(events, Writer(buffer), &mut standing.day),
-        false => run.events::<false>(events, Writer(buffer), &mut standing.day),
+        true => run.events::<true>(shares, events, Writer(buffer), &mut standing.day),
+        false => run.events::<false>(shares, events, Writer(buffer), &mut standing.day),
     };
     let rest = run.contracts(statement).total(&total);
     run.risk.leave(&mut standing.risk, &mut standing.risk_timed);

@@ -46,6 +46,7 @@ impl Treaty {
     }
 
     /// What is ceded of a loss when the treaty took so much of earlier ones in the event.
+    #[inline(always)]
     pub fn ceded(&self, loss: &Loss, taken: u64) -> u64 {
         let Loss { amount, maximum, .. } = *loss;
         let unlimited = match self.terms {

@@ -15,7 +15,7 @@ for structure in ctypes.Structure.__subclasses__():
         field = getattr(structure, name)
         print(plain, name, field.offset, field.size)
     print(plain, ctypes.sizeof(structure))
-for name in ("PLACES", "RATES", "TABLE_BYTES", "EVENTS_BYTES", "QUOTA_SHARE", "SURPLUS"):
+for name in ("PLACES", "RATES", "DAYS", "TABLE_BYTES", "EVENTS_BYTES", "QUOTA_SHARE", "SURPLUS"):
     print("constant", name, getattr(cession, name))
 for refusal in cession.Refusal:
     print("constant", refusal.name, int(refusal))

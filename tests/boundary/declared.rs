@@ -29,17 +29,20 @@ fn main() {
     print_struct!(Layers { places, count });
     print_struct!(Programme { treaties, risk, cat });
     print_struct!(Standing { risk, cat, day, risk_timed, cat_timed });
+    print_struct!(Scale { shares });
     print_struct!(Answer { refusal, number });
     print_struct!(Reading { refusal, line, programme });
+    print_struct!(ScaleReading { refusal, line, scale });
     print_struct!(Opening { refusal, number, standing });
     println!("constant PLACES {}", cession::PLACES);
     println!("constant RATES {}", cession::RATES);
+    println!("constant DAYS {}", cession::DAYS);
     println!("constant TABLE_BYTES {}", cession::TABLE_BYTES);
     println!("constant EVENTS_BYTES {}", cession::EVENTS_BYTES);
     println!("constant QUOTA_SHARE {}", cession::QUOTA_SHARE);
     println!("constant SURPLUS {}", cession::SURPLUS);
     let named = |number: &u64| !matches!(Refusal::from_numbers(*number, 0), Refusal::Other { .. });
-    for number in (1..).take_while(named) {
+    for number in (1..100).filter(named) {
         println!("constant {} {number}", constant(Refusal::from_numbers(number, 0)));
     }
 }

@@ -25,7 +25,8 @@ def fields(name, body):
 
 print('#include "cession.h"\n#include <stdio.h>\nint main(void) {')
 for name, body in structs:
-    plain = name.removeprefix("cession_")
+    # The bindings write a name of two words as one.
+    plain = name.removeprefix("cession_").replace("_", "")
     for field in fields(name, body):
         place = f"offsetof({name}, {field}), sizeof(((({name} *)0)->{field}))"
         print(f'    printf("{plain} {field} %zu %zu\\n", {place});')

@@ -188,6 +188,169 @@ static void try_events(cession_programme programme, cession_standing begun) {
     try_line("treaty that the table lacks", programme, begun, "(event 92 (loss 4 7 6))");
 }
 
+// A scale by steps: the whole premium up to day 183, 66.67% of it on day 184, a third from day 185 on.
+static uint64_t share_of(size_t day) {
+    return day < 184 ? 10000 : day == 184 ? 6667 : 3333;
+}
+
+static cession_scale steps(void) {
+    cession_scale scale;
+    for (size_t day = 1; day <= CESSION_DAYS; day++) {
+        scale.shares[day - 1] = share_of(day);
+    }
+    return scale;
+}
+
+// Reads the first so many lines of the scale, with other words in place of one of them; 0 for none.
+static void try_scale(const char *name, size_t count, size_t line, const char *words) {
+    static text lines;
+    lines.length = 0;
+    for (size_t day = 1; day <= count; day++) {
+        char *end = (char *)lines.bytes + lines.length;
+        const char *form = "(day %" PRIu64 " %" PRIu64 ")\n";
+        int written = day == line ? snprintf(end, 100, "%s", words)
+                                  : snprintf(end, 100, form, (uint64_t)day, share_of(day));
+        lines.length += (size_t)written;
+    }
+    cession_scale_reading reading = cession_read_scale(lines.length == 0 ? NULL : lines.bytes, lines.length);
+    cession_scale none, scale = steps();
+    memset(&none, 0, sizeof none);
+    const char *left = memcmp(&reading.scale, &none, sizeof none) == 0     ? "all 0"
+                       : memcmp(&reading.scale, &scale, sizeof scale) == 0 ? "the shares"
+                                                                           : "other shares";
+    printf("read scale, %s: %" PRIu64 " %" PRIu64 ", %s\n", name, reading.refusal, reading.line, left);
+}
+
+static void try_scales(void) {
+    try_scale("by steps", 366, 0, "");
+    try_scale("no lines", 0, 0, "");
+    try_scale("365 lines", 365, 0, "");
+    try_scale("367 lines", 367, 0, "");
+    try_scale("no last line feed", 366, 366, "(day 366 3333)");
+    try_scale("not the form", 366, 7, "(day 7 10000 )\n");
+    try_scale("another day", 366, 185, "(day 184 3333)\n");
+    try_scale("share over 10,000", 366, 184, "(day 184 10001)\n");
+    try_scale("share over 10,000 in 10 lines", 10, 3, "(day 3 10001)\n");
+    try_scale("share above the day before", 366, 185, "(day 185 6668)\n");
+}
+
+// A layer that charges 182,500 for half of its limit, by time; a loss of 500,000 on day 184.
+static text timed_table, timed_events;
+
+static void fill(text *into, const char *words) {
+    into->length = strlen(words);
+    memcpy(into->bytes, words, into->length);
+}
+
+// The statement of that loss, for which so much is charged.
+static const text *timed_statement(int premium) {
+    static text lines;
+    const char *form = "(event 184 (gross 500000) (ceded 0) (risk 0) (cat 500000) (net 0) (premium %d))\n"
+                       "(layer cat 1 (deductible 0) (cover 1500000) (recovered 500000) (premium %d))\n"
+                       "(total (gross 500000) (ceded 0) (risk 0) (cat 500000) (net 0) (premium %d))\n";
+    lines.length = (size_t)snprintf((char *)lines.bytes, MOST, form, premium, premium, premium);
+    return &lines;
+}
+
+// A run that is lent so many shares. An accepted one charges so much.
+typedef struct {
+    cession_programme programme;
+    cession_standing standing;
+    uint64_t shares[CESSION_DAYS + 1];
+    size_t count;
+    const text *lines;
+    size_t length;
+    int premium;
+} scaled;
+
+static void try_scaled(const char *name, const scaled *run) {
+    set_out(run->standing);
+    cession_answer answer =
+        cession_run_scaled(run->programme, &standings[1], run->count == 0 ? NULL : run->shares, run->count,
+                           run->lines->bytes, run->lines->length, lent(run->length), run->length);
+    print_left("run scaled", name, answer, timed_statement(run->premium));
+    if (answer.refusal == CESSION_ACCEPTED) {
+        cession_standing left = standings[1];
+        const char *form = "run scaled, %s, standing: %" PRIu64 " %" PRIu64 " %" PRIu64 "\n";
+        printf(form, name, left.cat[0], left.day, left.cat_timed[0]);
+    }
+}
+
+static scaled by_steps(void) {
+    scaled run;
+    memset(&run, 0, sizeof run);
+    cession_scale scale = steps();
+    memcpy(run.shares, scale.shares, sizeof scale.shares);
+    run.programme = cession_read(timed_table.bytes, timed_table.length).programme;
+    run.count = CESSION_DAYS;
+    run.lines = &timed_events;
+    run.length = MOST;
+    run.premium = 121673;
+    return run;
+}
+
+// 182,500 x 6,667 / 10,000 is 121,672.75; the built-in share of day 184 is 4,986, and 182,500 x 4,986 / 10,000 is
+// 90,994.5.
+static void try_accepted(void) {
+    scaled run = by_steps();
+    try_scaled("by steps", &run);
+    run.length = 245;
+    try_scaled("buffer just long enough", &run);
+    run.length = 244;
+    try_scaled("buffer one byte short", &run);
+    run = by_steps();
+    for (size_t day = 1; day <= CESSION_DAYS; day++) {
+        run.shares[day - 1] = 10000 * (366 - day) / 365;
+    }
+    run.premium = 90995;
+    try_scaled("the built-in shares", &run);
+    run = by_steps();
+    run.programme.cat.places[0].time = 0;
+    run.premium = 182500;
+    try_scaled("without (time)", &run);
+}
+
+// Each scale is one that no text reads to.
+static void try_no_scales(void) {
+    scaled run = by_steps();
+    run.count = 0;
+    try_scaled("no shares", &run);
+    run.count = 365;
+    try_scaled("365 shares", &run);
+    run.count = 367;
+    try_scaled("367 shares", &run);
+    run.count = 366;
+    run.shares[0] = 10001;
+    try_scaled("first share over 10,000", &run);
+    run.shares[0] = 9999;
+    try_scaled("share of day 2 above the one before", &run);
+    run = by_steps();
+    run.shares[365] = 3334;
+    try_scaled("share of day 366 above the one before", &run);
+    run.programme.cat.places[0].time = 0;
+    try_scaled("the same without (time)", &run);
+}
+
+// 365 shares with another fault beside them: 6 and 8 come before 28, 9 and the faults of lines after it.
+static void try_order(void) {
+    static text long_text, broken;
+    long_text.length = CESSION_EVENTS_BYTES + 1;
+    fill(&broken, "(event 367)\n");
+    scaled run = by_steps();
+    run.lines = &long_text;
+    try_scaled("events over 65,536 bytes", &run);
+    run.count = 365;
+    try_scaled("365 shares, events over 65,536 bytes", &run);
+    run.standing.day = 367;
+    try_scaled("365 shares, day 367 in the standing", &run);
+    run.programme.cat.places[0].time = 2;
+    try_scaled("365 shares, time 2", &run);
+    run = by_steps();
+    run.count = 365;
+    run.lines = &broken;
+    try_scaled("365 shares, day 367", &run);
+}
+
 int main(int count, char **arguments) {
     const char *folder = count == 2 ? arguments[1] : ".";
     load(folder, "programme.txt", &table);
@@ -209,5 +372,11 @@ int main(int count, char **arguments) {
     try_run("buffer one byte short", programme, fresh, &events, statement.length - 1);
     try_run("buffer just long enough", programme, fresh, &events, statement.length);
     try_run("buffer longer", programme, fresh, &events, MOST);
+    fill(&timed_table, "(cat (band 0 1000000) (deduct 0) (back 1 365000 10000) (placed 10000) (time))\n");
+    fill(&timed_events, "(event 184 (loss 0 500000 500000))\n");
+    try_scales();
+    try_accepted();
+    try_no_scales();
+    try_order();
     return 0;
 }

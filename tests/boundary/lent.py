@@ -145,6 +145,106 @@ def try_events():
     try_run("treaty that the table lacks", BEGUN, first + b"(event 92 (loss 4 7 6))\n")
 
 
+def share_of(day):
+    """A scale by steps: the whole premium up to day 183, 66.67% of it on day 184, a third from day 185 on."""
+    return 10000 if day < 184 else 6667 if day == 184 else 3333
+
+
+STEPS = tuple(share_of(day) for day in range(1, 367))
+
+
+def try_scale(name, count, line=0, words=b""):
+    """Reads the first so many lines of the scale, with other words in place of one of them."""
+    lines = [words if day == line else b"(day %d %d)\n" % (day, share_of(day)) for day in range(1, count + 1)]
+    text = b"".join(lines)
+    # The module gives no shares with a refusal: the call below it does.
+    shares = tuple(raw.library().cession_read_scale(text, len(text)).scale.shares)
+    state = "all 0" if shares == (0,) * 366 else "the shares" if shares == STEPS else "other shares"
+
+    def call():
+        assert cession.read_scale(text).shares == shares, "the module's shares"
+        return 0
+
+    show("read scale", name, *answer(call), state)
+
+
+def try_scales():
+    try_scale("by steps", 366)
+    try_scale("no lines", 0)
+    try_scale("365 lines", 365)
+    try_scale("367 lines", 367)
+    try_scale("no last line feed", 366, 366, b"(day 366 3333)")
+    try_scale("not the form", 366, 7, b"(day 7 10000 )\n")
+    try_scale("another day", 366, 185, b"(day 184 3333)\n")
+    try_scale("share over 10,000", 366, 184, b"(day 184 10001)\n")
+    try_scale("share over 10,000 in 10 lines", 10, 3, b"(day 3 10001)\n")
+    try_scale("share above the day before", 366, 185, b"(day 185 6668)\n")
+
+
+# A layer that charges 182,500 for half of its limit, by time; a loss of 500,000 on day 184.
+TIMED = cession.read(b"(cat (band 0 1000000) (deduct 0) (back 1 365000 10000) (placed 10000) (time))\n")
+UNTIMED = cession.read(b"(cat (band 0 1000000) (deduct 0) (back 1 365000 10000) (placed 10000))\n")
+TWICE_TIMED = cession.Programme(cat=[dataclasses.replace(TIMED.cat[0], time=2)])
+LOSS = b"(event 184 (loss 0 500000 500000))\n"
+LONG = bytes(cession.EVENTS_BYTES + 1)
+
+
+def timed_statement(premium):
+    """The statement of that loss, for which so much is charged."""
+    return (
+        b"(event 184 (gross 500000) (ceded 0) (risk 0) (cat 500000) (net 0) (premium %d))\n"
+        b"(layer cat 1 (deductible 0) (cover 1500000) (recovered 500000) (premium %d))\n"
+        b"(total (gross 500000) (ceded 0) (risk 0) (cat 500000) (net 0) (premium %d))\n" % ((premium,) * 3)
+    )
+
+
+def try_scaled(name, shares, length=MOST, premium=121673, programme=TIMED, standing=cession.Standing(), events=LOSS):
+    """A run that is lent shares. An accepted one charges so much."""
+    after = []
+
+    def call(buffer, lent):
+        refusal, number = answer(cession.run_scaled_into, programme, lent, cession.Scale(shares), events, buffer)
+        if not refusal:
+            after.append((lent.cat[0], lent.day, lent.cat_timed[0]))
+        return refusal, number
+
+    show("run scaled", name, *left(call, timed_statement(premium), length, standing.to_raw()))
+    for spent, day, timed in after:
+        print(f"run scaled, {name}, standing: {spent} {day} {timed}")
+
+
+def try_accepted():
+    """182,500 x 6,667 / 10,000 is 121,672.75; the built-in share of day 184 is 4,986, and 182,500 x 4,986 / 10,000 is
+    90,994.5.
+    """
+    try_scaled("by steps", STEPS)
+    try_scaled("buffer just long enough", STEPS, 245)
+    try_scaled("buffer one byte short", STEPS, 244)
+    try_scaled("the built-in shares", [10000 * (366 - day) // 365 for day in range(1, 367)], premium=90995)
+    try_scaled("without (time)", STEPS, premium=182500, programme=UNTIMED)
+
+
+def try_no_scales():
+    """Each scale is one that no text reads to."""
+    try_scaled("no shares", ())
+    try_scaled("365 shares", STEPS[:365])
+    try_scaled("367 shares", STEPS + (0,))
+    try_scaled("first share over 10,000", (10001,) + STEPS[1:])
+    try_scaled("share of day 2 above the one before", (9999,) + STEPS[1:])
+    try_scaled("share of day 366 above the one before", STEPS[:365] + (3334,))
+    try_scaled("the same without (time)", STEPS[:365] + (3334,), programme=UNTIMED)
+
+
+def try_order():
+    """365 shares with another fault beside them: 6 and 8 come before 28, 9 and the faults of lines after it."""
+    short, late = STEPS[:365], cession.Standing(day=367)
+    try_scaled("events over 65,536 bytes", STEPS, events=LONG)
+    try_scaled("365 shares, events over 65,536 bytes", short, events=LONG)
+    try_scaled("365 shares, day 367 in the standing", short, standing=late, events=LONG)
+    try_scaled("365 shares, time 2", short, programme=TWICE_TIMED, standing=late, events=LONG)
+    try_scaled("365 shares, day 367", short, events=b"(event 367)\n")
+
+
 def buffers(text):
     """The lengths of buffer that a text is tried with."""
     return {
@@ -163,3 +263,7 @@ try_events()
 try_run("no events and no buffer", cession.Standing(), b"", 0)
 for case, size in buffers(STATEMENT):
     try_run(case, cession.Standing(), EVENTS, size)
+try_scales()
+try_accepted()
+try_no_scales()
+try_order()

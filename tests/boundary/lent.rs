@@ -1,7 +1,7 @@
 //! What calls leave of what they are lent, through the Rust wrapper. Called as `lent FOLDER`, it does and prints what
 //! lent.c does.
 
-use cession::{raw, Programme, Refusal, Standing, EVENTS_BYTES};
+use cession::{raw, Programme, Refusal, Scale, Standing, DAYS, EVENTS_BYTES};
 use std::path::Path;
 use std::{env, fs};
 
@@ -67,17 +67,9 @@ impl Lent {
     }
 
     fn run(&self, name: &str, programme: raw::Programme, standing: raw::Standing, events: &[u8], length: usize) {
-        let (mut bytes, before) = (memory(), memory());
-        let around = raw::Standing { day: 7, ..raw::Standing::default() };
-        let standings_before = [around, standing, around].map(Standing::from);
-        let mut standings = standings_before.clone();
-        let lent = &mut bytes[AROUND..AROUND + length];
-        let answer = Programme::from(programme).run_into(&mut standings[1], events, lent);
-        if answer.is_ok() {
-            standings[1] = standings_before[1].clone();
-        }
-        let left = left(&bytes, &before, &self.statement, answer.is_ok());
-        print("run", name, answer, if standings == standings_before { left } else { "changed" });
+        let programme = Programme::from(programme);
+        let call = |standing: &mut Standing, buffer: &mut [u8]| programme.run_into(standing, events, buffer);
+        run("run", name, standing, length, &self.statement, call);
     }
 
     /// Each programme has one number that no table text reads to.
@@ -150,6 +142,179 @@ impl Lent {
     }
 }
 
+/// A run that is lent the middle one of three standings and so many bytes; gives the standing that it leaves.
+fn run(
+    kind: &str,
+    name: &str,
+    standing: raw::Standing,
+    length: usize,
+    written: &[u8],
+    call: impl Fn(&mut Standing, &mut [u8]) -> Result<usize, Refusal>,
+) -> Option<Standing> {
+    let (mut bytes, before) = (memory(), memory());
+    let around = raw::Standing { day: 7, ..raw::Standing::default() };
+    let standings_before = [around, standing, around].map(Standing::from);
+    let mut standings = standings_before.clone();
+    let answer = call(&mut standings[1], &mut bytes[AROUND..AROUND + length]);
+    let after = answer.is_ok().then(|| std::mem::replace(&mut standings[1], standings_before[1].clone()));
+    let left = left(&bytes, &before, written, answer.is_ok());
+    print(kind, name, answer, if standings == standings_before { left } else { "changed" });
+    after
+}
+
+/// A scale by steps: the whole premium up to day 183, 66.67% of it on day 184, a third from day 185 on.
+fn share_of(day: usize) -> u64 {
+    match day {
+        ..184 => 10_000,
+        184 => 6_667,
+        _ => 3_333,
+    }
+}
+
+fn steps() -> [u64; DAYS] {
+    std::array::from_fn(|place| share_of(place + 1))
+}
+
+/// Reads the first so many lines of the scale, with other words in place of one of them; 0 for none.
+fn scale(name: &str, count: usize, line: usize, words: &str) {
+    let form = |day: usize| format!("(day {day} {})\n", share_of(day));
+    let lines = (1..=count).map(|day| if day == line { words.to_string() } else { form(day) });
+    let text: String = lines.collect();
+    // The wrapper gives no shares with a refusal: the call below it does.
+    let reading = unsafe { raw::cession_read_scale(text.as_ptr(), text.len()) };
+    let left = match reading.scale.shares {
+        shares if shares == [0; DAYS] => "all 0",
+        shares if shares == steps() => "the shares",
+        _ => "other shares",
+    };
+    let read = Scale::read(text.as_bytes());
+    assert!(read.as_ref().map_or(true, |scale| *scale.shares() == reading.scale.shares), "the wrapper's shares");
+    print("read scale", name, read.map(|_| 0), left);
+}
+
+fn scales() {
+    scale("by steps", 366, 0, "");
+    scale("no lines", 0, 0, "");
+    scale("365 lines", 365, 0, "");
+    scale("367 lines", 367, 0, "");
+    scale("no last line feed", 366, 366, "(day 366 3333)");
+    scale("not the form", 366, 7, "(day 7 10000 )\n");
+    scale("another day", 366, 185, "(day 184 3333)\n");
+    scale("share over 10,000", 366, 184, "(day 184 10001)\n");
+    scale("share over 10,000 in 10 lines", 10, 3, "(day 3 10001)\n");
+    scale("share above the day before", 366, 185, "(day 185 6668)\n");
+}
+
+/// A run that is lent shares. An accepted one charges so much.
+#[derive(Clone)]
+struct Scaled {
+    programme: raw::Programme,
+    standing: raw::Standing,
+    shares: Vec<u64>,
+    events: Vec<u8>,
+    length: usize,
+    premium: u64,
+}
+
+impl Scaled {
+    /// A layer that charges 182,500 for half of its limit, by time; a loss of 500,000 on day 184.
+    fn by_steps() -> Scaled {
+        let table = b"(cat (band 0 1000000) (deduct 0) (back 1 365000 10000) (placed 10000) (time))\n";
+        Scaled {
+            programme: Programme::read(table).expect("a table").into(),
+            standing: raw::Standing::default(),
+            shares: steps().to_vec(),
+            events: b"(event 184 (loss 0 500000 500000))\n".to_vec(),
+            length: MOST,
+            premium: 121_673,
+        }
+    }
+
+    /// The statement of that loss, for which so much is charged.
+    fn statement(&self) -> String {
+        let premium = self.premium;
+        format!(
+            "(event 184 (gross 500000) (ceded 0) (risk 0) (cat 500000) (net 0) (premium {premium}))\n\
+            (layer cat 1 (deductible 0) (cover 1500000) (recovered 500000) (premium {premium}))\n\
+            (total (gross 500000) (ceded 0) (risk 0) (cat 500000) (net 0) (premium {premium}))\n"
+        )
+    }
+
+    /// A scale of the wrapper has 366 shares: fewer and more go to the call below it.
+    fn call(&self, standing: &mut Standing, buffer: &mut [u8]) -> Result<usize, Refusal> {
+        if let Ok(shares) = <[u64; DAYS]>::try_from(self.shares.as_slice()) {
+            let programme = Programme::from(self.programme);
+            return programme.run_scaled_into(standing, &Scale::from(shares), &self.events, buffer);
+        }
+        let mut lent = standing.clone().into();
+        let (shares, text, room) = (self.shares.as_ptr(), self.events.as_ptr(), buffer.as_mut_ptr());
+        let (days, size, length) = (self.shares.len(), self.events.len(), buffer.len());
+        let answer =
+            unsafe { raw::cession_run_scaled(self.programme, &mut lent, shares, days, text, size, room, length) };
+        *standing = lent.into();
+        match answer.refusal {
+            0 => Ok(answer.number as usize),
+            refusal => Err(Refusal::from_numbers(refusal, answer.number)),
+        }
+    }
+
+    fn run(&self, name: &str) {
+        let statement = self.statement();
+        let call = |standing: &mut Standing, buffer: &mut [u8]| self.call(standing, buffer);
+        if let Some(left) = run("run scaled", name, self.standing, self.length, statement.as_bytes(), call) {
+            let (spent, timed) = (left.cat()[0], left.cat_timed()[0]);
+            println!("run scaled, {name}, standing: {spent} {} {timed}", left.day());
+        }
+    }
+
+    /// The run with a change.
+    fn with(&self, name: &str, change: impl Fn(&mut Scaled)) -> Scaled {
+        let mut changed = self.clone();
+        change(&mut changed);
+        changed.run(name);
+        changed
+    }
+}
+
+/// 182,500 x 6,667 / 10,000 is 121,672.75; the built-in share of day 184 is 4,986, and 182,500 x 4,986 / 10,000 is
+/// 90,994.5.
+fn accepted(steps: &Scaled) {
+    steps.run("by steps");
+    steps.with("buffer just long enough", |run| run.length = 245);
+    steps.with("buffer one byte short", |run| run.length = 244);
+    steps.with("the built-in shares", |run| {
+        run.shares = (1..=366).map(|day| 10_000 * (366 - day) / 365).collect();
+        run.premium = 90_995;
+    });
+    steps.with("without (time)", |run| {
+        run.programme.cat.places[0].time = 0;
+        run.premium = 182_500;
+    });
+}
+
+/// Each scale is one that no text reads to.
+fn no_scales(steps: &Scaled) {
+    steps.with("no shares", |run| run.shares.clear());
+    steps.with("365 shares", |run| run.shares.truncate(365));
+    steps.with("367 shares", |run| run.shares.push(0));
+    steps.with("first share over 10,000", |run| run.shares[0] = 10_001);
+    steps.with("share of day 2 above the one before", |run| run.shares[0] = 9_999);
+    let above = steps.with("share of day 366 above the one before", |run| run.shares[365] = 3_334);
+    above.with("the same without (time)", |run| run.programme.cat.places[0].time = 0);
+}
+
+/// 365 shares with another fault beside them: 6 and 8 come before 28, 9 and the faults of lines after it.
+fn order(steps: &Scaled) {
+    let long = steps.with("events over 65,536 bytes", |run| run.events = vec![0; EVENTS_BYTES + 1]);
+    let short = long.with("365 shares, events over 65,536 bytes", |run| run.shares.truncate(365));
+    let late = short.with("365 shares, day 367 in the standing", |run| run.standing.day = 367);
+    late.with("365 shares, time 2", |run| run.programme.cat.places[0].time = 2);
+    steps.with("365 shares, day 367", |run| {
+        run.shares.truncate(365);
+        run.events = b"(event 367)\n".to_vec();
+    });
+}
+
 /// The lengths of buffer that a text is tried with.
 fn buffers(text: &[u8]) -> [(&'static str, usize); 4] {
     [
@@ -172,4 +337,9 @@ fn main() {
     for (name, length) in buffers(&lent.statement) {
         lent.run(name, lent.programme(), raw::Standing::default(), &lent.events, length);
     }
+    scales();
+    let steps = Scaled::by_steps();
+    accepted(&steps);
+    no_scales(&steps);
+    order(&steps);
 }

@@ -1,7 +1,10 @@
-"""Prints number and sentence of every refusal that the Python module names, and of one that it does not."""
+"""Prints number and sentence of every refusal that the Python module names, and of some that it does not, with a second
+number of 0 and with another.
+"""
 
 import cession
 
-for number in range(1, 16):
-    refused = cession.refused(number, 3)
-    print(f"{refused.number}: {refused}")
+for number in range(1, 32):
+    for second in (0, 3):
+        refused = cession.refused(number, second)
+        print(f"{refused.number}: {refused}")

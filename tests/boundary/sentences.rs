@@ -1,10 +1,13 @@
-//! Prints number and sentence of every refusal that the Rust wrapper names, and of one that it does not.
+//! Prints number and sentence of every refusal that the Rust wrapper names, and of some that it does not, with a second
+//! number of 0 and with another.
 
 use cession::Refusal;
 
 fn main() {
-    for number in 1..=15 {
-        let refusal = Refusal::from_numbers(number, 3);
-        println!("{}: {refusal}", refusal.number());
+    for number in 1..=31 {
+        for second in [0, 3] {
+            let refusal = Refusal::from_numbers(number, second);
+            println!("{}: {refusal}", refusal.number());
+        }
     }
 }

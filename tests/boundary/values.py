@@ -8,7 +8,7 @@ import ctypes.util
 import os
 
 import cession
-from cession import Programme, Standing, Terms, Treaty, raw
+from cession import Programme, Scale, Standing, Terms, Treaty, raw
 
 SOUND = Terms(attachment=50, limit=100, placed=9000)
 NO_CALL = [
@@ -38,6 +38,10 @@ NO_CALL = [
     (TypeError, "day is a bool", Standing(day=True)),
     (TypeError, "risk[0] is a Treaty", Programme(risk=[Treaty(1, 1)])),
     (TypeError, "treaties[1] is a Terms", Programme(treaties=[Treaty(1, 1), SOUND])),
+    (ValueError, "shares[365]", Scale([10000] * 365 + [2**64])),
+    (ValueError, "shares[0]", Scale([-1])),
+    (TypeError, "shares[1] is a float", Scale([10000, 0.5])),
+    (TypeError, "shares[0] is a bool", Scale([True] * 366)),
 ]
 
 
@@ -60,6 +64,11 @@ NO_LENDING = [
     (TypeError, "standing is a NoneType", lambda: cession.run_into(Programme(), None, b"", bytearray(9))),
     (TypeError, "standing is a Standing", lambda: cession.run_into(Programme(), Standing(), b"", bytearray(9))),
     (ValueError, "overlap", lambda: cession.run_into(Programme(), LENT, b"", LENT)),
+    (TypeError, "text is a str", lambda: cession.read_scale("(day 1 10000)")),
+    (TypeError, "scale is a list", lambda: cession.run_scaled(Programme(), Standing(), [10000] * 366, b"")),
+    (TypeError, "scale is a NoneType", lambda: cession.run_scaled_into(Programme(), LENT, None, b"", bytearray(9))),
+    (TypeError, "standing is a NoneType", lambda: cession.run_scaled(Programme(), None, Scale([0] * 366), b"")),
+    (ValueError, "overlap", lambda: cession.run_scaled_into(Programme(), LENT, Scale([0] * 366), b"", LENT)),
     (TypeError, "not writable", lambda: cession.write_into(Programme(cat=[SOUND]), b"read only")),
     (TypeError, "contiguous", lambda: cession.write_into(Programme(cat=[SOUND]), memoryview(bytearray(200))[::2])),
     (ValueError, "count", lambda: Programme.from_raw(raw.Programme(cat=raw.Layers(count=9)))),
@@ -68,9 +77,11 @@ NO_LENDING = [
 
 
 def lend(value):
-    """Lends a programme to writing, or a standing to a run under a programme that is sound."""
+    """Lends a programme to writing, or a standing or a scale to a run under a programme that is sound."""
     if isinstance(value, Programme):
         return cession.write(value)
+    if isinstance(value, Scale):
+        return cession.run_scaled(Programme(), Standing(), value, b"")
     return cession.run(Programme(), value, b"")
 
 

@@ -3,6 +3,8 @@
 
 use crate::calculation::table::Layer;
 use crate::ledger::Ledger;
+use crate::raw::Programme;
+use crate::runs::Run;
 use crate::totals::{numbers, totals};
 
 /// The accepted runs so far.
@@ -14,6 +16,7 @@ pub struct Accepted {
     days: Vec<u64>,
     last: String,
     had_another_programme: bool,
+    had_another_scale: bool,
 }
 
 /// The numbers of a tier's lines: place, deductible left, cover left, recovered, premium.
@@ -53,26 +56,23 @@ fn former_premium(layer: &Layer, used: u128) -> Option<u128> {
     is_one_rate.then_some((product + 5_000 * u128::from(layer.limit)) / (10_000 * u128::from(layer.limit)))
 }
 
-/// Document 02, Q-4: 10,000 × (366 − D) / 365, rounded down.
-fn share(day: u64) -> u128 {
-    u128::from(10_000 * (366 - day) / 365)
-}
-
 impl Accepted {
-    pub fn add(&mut self, events: &[u8], statement: &[u8], is_of_another_programme: bool) {
+    pub fn add(&mut self, run: &Run, statement: &[u8], programme: &Programme) {
         for (total, amount) in self.totals.iter_mut().zip(totals(statement).unwrap_or_default()) {
             *total += amount;
         }
-        for line in String::from_utf8_lossy(events).lines().map(numbers) {
+        for line in String::from_utf8_lossy(&run.events).lines().map(numbers) {
             let losses = line.iter().skip(3).step_by(3);
             self.days.extend(vec![line[0]; 1 + losses.len()]);
             self.gross += losses.sum::<u64>();
         }
         self.last = String::from_utf8_lossy(statement).into_owned();
-        self.had_another_programme |= is_of_another_programme;
+        self.had_another_programme |= run.programme != *programme;
+        self.had_another_scale |= run.shares.is_some();
     }
 
-    pub fn check(&self, ledger: &Ledger) -> Result<(), String> {
+    /// Holds what was printed to a history under these time shares.
+    pub fn check(&self, ledger: &Ledger, shares: &[u64]) -> Result<(), String> {
         if self.last.is_empty() {
             return Ok(());
         }
@@ -84,7 +84,7 @@ impl Accepted {
             let used = used(layer, sum);
             equal("a layer's recoveries", line[3], recovered(layer, used) as u64)?;
             if let Some(premium) = former_premium(layer, used) {
-                self.check_premium(layer, line[4], premium)?;
+                self.check_premium(layer, line[4], premium, shares)?;
             }
         }
         if self.had_another_programme {
@@ -96,16 +96,24 @@ impl Accepted {
     }
 
     /// A layer's premium where its amount premium is known. By time it is, to half a cent for each event and loss,
-    /// between what it would be if all of them were on the last day and if all were on the first.
-    fn check_premium(&self, layer: &Layer, found: u64, amount_premium: u128) -> Result<(), String> {
+    /// between what it would be if all of them were on the last day and if all were on the first: shares never rise.
+    fn check_premium(
+        &self,
+        layer: &Layer,
+        found: u64,
+        amount_premium: u128,
+        shares: &[u64],
+    ) -> Result<(), String> {
         if !layer.is_timed {
             return equal("a layer's premium at one rate", found, amount_premium as u64);
         }
-        let (Some(first), Some(last), false) = (self.days.first(), self.days.last(), self.had_another_programme) else {
+        let had_another = self.had_another_programme || self.had_another_scale;
+        let (Some(first), Some(last), false) = (self.days.first(), self.days.last(), had_another) else {
             return Ok(());
         };
+        let share = |day: &u64| u128::from(shares[*day as usize - 1]);
         let (halves, found) = (10_000 * self.days.len() as u128, 20_000 * u128::from(found));
-        let (most, least) = (2 * amount_premium * share(*first), 2 * amount_premium * share(*last));
+        let (most, least) = (2 * amount_premium * share(first), 2 * amount_premium * share(last));
         if found <= most + halves && found + halves >= least {
             return Ok(());
         }

@@ -1,7 +1,7 @@
 //! The library's calls on slices. What a run may write to stands between guards, so that a byte written outside shows.
 
 use crate::random::Random;
-use crate::raw::{self, Answer, Opening, Programme, Reading, Standing};
+use crate::raw::{self, Answer, Opening, Programme, Reading, ScaleReading, Standing};
 use std::ptr;
 
 const GUARD: usize = 64;
@@ -78,7 +78,23 @@ pub fn open(programme: &Programme) -> Opening {
     unsafe { raw::cession_open(*programme) }
 }
 
-pub fn run(programme: &Programme, lent: &mut Lent, events: &[u8], room: &mut Room) -> Answer {
+pub fn read_scale(text: &[u8]) -> ScaleReading {
+    unsafe { raw::cession_read_scale(text.as_ptr(), text.len()) }
+}
+
+/// A run that is lent a scale's shares, or none: it then charges by the built-in ones. No shares have no address.
+pub fn run(
+    programme: &Programme,
+    lent: &mut Lent,
+    scale: Option<&[u64]>,
+    events: &[u8],
+    room: &mut Room,
+) -> Answer {
     let (address, length) = (room.address(), room.length());
-    unsafe { raw::cession_run(*programme, &mut lent.standing, events.as_ptr(), events.len(), address, length) }
+    let (standing, text, size) = (&mut lent.standing, events.as_ptr(), events.len());
+    let Some(shares) = scale else {
+        return unsafe { raw::cession_run(*programme, standing, text, size, address, length) };
+    };
+    let first = shares.first().map_or(ptr::null(), ptr::from_ref);
+    unsafe { raw::cession_run_scaled(*programme, standing, first, shares.len(), text, size, address, length) }
 }

@@ -1,9 +1,11 @@
-//! Programmes and standings changed in one field. Most are refused; some are another programme or standing.
+//! Programmes and standings changed in one field, and scales in one share or in their length. Most are refused; some
+//! are another programme, standing or scale.
 
 use crate::calculation::table::{Layer, Programme};
 use crate::damage::{Range, AMOUNT, LAYER, RATE, SHARE};
 use crate::random::Random;
 use crate::raw;
+use crate::scales::{DAYS, WHOLE};
 
 const TREATY: [Range; 7] = [(1, 2), (1, 8), SHARE, AMOUNT, AMOUNT, (0, 100), AMOUNT];
 const TIME: Range = (0, 1);
@@ -135,6 +137,24 @@ pub fn standing(random: &mut Random, programme: &Programme, standing: &raw::Stan
         2 => spent(random, &programme.cat, &mut changed.cat),
         3 => timed(random, &programme.risk, &changed.risk, &mut changed.risk_timed),
         _ => timed(random, &programme.cat, &changed.cat, &mut changed.cat_timed),
+    }
+    changed
+}
+
+/// Shares of which one is above the one before, over the whole or another, or which are too few or too many.
+pub fn shares(random: &mut Random, shares: &[u64]) -> Vec<u64> {
+    let (mut changed, days) = (shares.to_vec(), DAYS as usize);
+    let any = 1 + random.place(days - 1);
+    let place = random.pick(&[1, days - 1, any]);
+    match random.between(0, 9) {
+        0 => changed.truncate(random.pick(&[days - 1, days - 1, 365 / 2, 1, 0])),
+        1 => changed.clear(),
+        2 => changed.resize(random.pick(&[days + 1, days + 1, 2 * days]), 0),
+        3 => changed[0] = random.pick(&[WHOLE + 1, WHOLE + 1, u64::MAX]),
+        4 => changed[place] = random.pick(&[WHOLE + 1, u64::MAX, 1 << 63]),
+        5 => changed[place] = changed[place].saturating_sub(1),
+        6 => changed = vec![WHOLE + 1; days],
+        _ => changed[place] = changed[place - 1] + 1,
     }
     changed
 }

@@ -1,5 +1,5 @@
-//! One history: a table read and opened, then runs that are lent one standing, each compared with the ledger: result,
-//! standing and every byte of the buffer.
+//! One history: a table and a scale read, a year opened, then runs that are lent one standing and the scale, each
+//! compared with the ledger: result, standing and every byte of the buffer.
 
 use crate::accepted::Accepted;
 use crate::boundary::{self, Lent, Room};
@@ -10,6 +10,7 @@ use crate::random::Random;
 use crate::raw::{self, Answer, Opening, Reading};
 use crate::records;
 use crate::runs::{Run, Runs};
+use crate::scaled::Own;
 use crate::show::shown;
 use crate::tally::Tally;
 
@@ -30,8 +31,9 @@ struct Left {
 pub struct History {
     runs: Runs,
     programme: raw::Programme,
+    own: Own,
     ledger: Ledger,
-    lent: Lent,
+    standing: raw::Standing,
     accepted: Accepted,
 }
 
@@ -66,76 +68,99 @@ fn open(random: &mut Random, table: &[u8]) -> Result<(raw::Programme, Ledger), D
 }
 
 impl History {
-    pub fn open(random: Random) -> Result<History, Difference> {
+    pub fn open(random: Random, tally: &mut Tally) -> Result<History, Difference> {
         let mut runs = Runs::new(random);
         let table = runs.table.lines.concat();
         let (programme, ledger) = open(&mut runs.random, &table)?;
-        let lent = Lent::new(ledger.standing());
-        Ok(History { runs, programme, ledger, lent, accepted: Accepted::default() })
+        let own = Own::new(&mut runs.random, &mut tally.scaled)?;
+        let standing = ledger.standing();
+        Ok(History { runs, programme, own, ledger, standing, accepted: Accepted::default() })
     }
 
     /// What the second calculation says that a run leaves. Its ledger moves with the history's own standing alone.
     fn expected(&mut self, run: &Run) -> Left {
-        let mut room = run.room.clone();
+        let (mut room, scale) = (run.room.clone(), run.scale(&self.own.scale));
+        let mut book = |ledger: &mut Ledger| {
+            let result = ledger.run(&run.programme, scale.as_ref(), &run.events, room.lent());
+            (result, ledger.standing())
+        };
         let (result, standing) = match &run.standing {
-            None => {
-                let result = self.ledger.run(&run.programme, &run.events, room.lent());
-                (result, self.ledger.standing())
-            }
+            None => book(&mut self.ledger),
             Some(changed) => match Ledger::from(&run.programme, changed) {
-                Ok(mut ledger) => (ledger.run(&run.programme, &run.events, room.lent()), ledger.standing()),
+                Ok(mut ledger) => book(&mut ledger),
                 Err(refusal) => (Err(refusal), *changed),
             },
         };
         Left { answer: answer(result), lent: Lent::new(standing), room }
     }
 
-    /// The next run: lends the standing, compares what is left, and puts the standing back if it was a changed one.
+    /// Makes the run once with each scale that it is lent; each leaves what is expected.
+    fn compare(&mut self, run: &Run, lent: &raw::Standing) -> Result<Left, Difference> {
+        let expected = self.expected(run);
+        for scale in self.own.ways(run) {
+            let (mut lent_now, mut room) = (Lent::new(*lent), run.room.clone());
+            let answer = boundary::run(&run.programme, &mut lent_now, scale, &run.events, &mut room);
+            let found = Left { answer, lent: lent_now, room };
+            if found != expected {
+                return Err(self.difference(run, scale, lent, &found, &expected));
+            }
+        }
+        Ok(expected)
+    }
+
+    /// The next run: lends the standing, compares what is left, and keeps the standing that it had if a changed one was
+    /// lent.
     pub fn run(&mut self, tally: &mut Tally) -> Result<(), Difference> {
-        let run = self.runs.next(&self.programme, &self.ledger);
-        let (before, ledger) = (self.lent, self.ledger.clone());
-        if let Some(changed) = run.standing {
-            self.lent.standing = changed;
-        }
-        let lent = self.lent.standing;
-        let expected = self.expected(&run);
-        let mut room = run.room.clone();
-        let answer = boundary::run(&run.programme, &mut self.lent, &run.events, &mut room);
-        let found = Left { answer, lent: self.lent, room };
-        if found != expected {
-            return Err(self.difference(&run, &lent, &found, &expected));
-        }
-        tally.count_run(&run, &self.programme, &before.standing, answer);
-        if run.standing.is_some() {
-            self.lent = before;
-        } else if answer.refusal == 0 {
-            tally.count_bounds(&ledger, &self.ledger);
-            tally.timed.count_charged(&ledger, &self.ledger);
-            tally.limits.count(&self.ledger.programme, &run.events);
-            let (statement, charges) = (found.room.text(answer.number), self.ledger.charges(&lent, &run.events));
-            tally.roundings.count(&self.ledger.programme, &run.events, statement, &charges);
-            tally.rates.count(&self.ledger.programme, statement);
-            tally.times.count(&charges);
-            self.take_in(&run, &lent, &found, tally)?;
+        let run = self.runs.next(&self.programme, &self.ledger, &self.own.scale);
+        let (before, ledger) = (self.standing, self.ledger.clone());
+        let lent = run.standing.unwrap_or(before);
+        let left = self.compare(&run, &lent)?;
+        let refusal = left.answer.refusal;
+        let own_scale = || run.result(&ledger, Some(&self.own.scale), run.room.length());
+        tally.scaled.count_run(&run, refusal, || answer(own_scale()).refusal);
+        tally.count_run(&run, &self.programme, &before, left.answer);
+        if run.standing.is_none() {
+            self.standing = left.lent.standing;
+            if refusal == 0 {
+                self.count(&run, &lent, &ledger, &left, tally);
+                self.take_in(&run, &lent, &left, tally)?;
+            }
         }
         Ok(())
+    }
+
+    /// Counts what an accepted run has reached, from a standing and a ledger before it.
+    fn count(&self, run: &Run, from: &raw::Standing, before: &Ledger, left: &Left, tally: &mut Tally) {
+        let (programme, statement) = (&self.ledger.programme, left.room.text(left.answer.number));
+        let Some(scale) = run.scale(&self.own.scale) else { return };
+        let charges = self.ledger.charges(from, &scale, &run.events);
+        tally.count_bounds(before, &self.ledger);
+        tally.timed.count_charged(before, &self.ledger);
+        tally.limits.count(programme, &run.events);
+        tally.roundings.count(programme, &run.events, statement, &charges);
+        tally.rates.count(programme, statement);
+        tally.scaled.count_charged(&self.own, charges.iter().flat_map(|charges| &charges.amount_premiums).count());
+        if self.own.lent().is_none() && run.shares.is_none() {
+            tally.times.count(&charges);
+        }
     }
 
     /// What an accepted run adds to the history; at times its text is run in two as well.
     fn take_in(&mut self, run: &Run, from: &raw::Standing, left: &Left, tally: &mut Tally) -> Result<(), Difference> {
         let length = left.answer.number;
-        self.accepted.add(&run.events, left.room.text(length), run.programme != self.programme);
+        self.accepted.add(run, left.room.text(length), &self.programme);
         let lines = run.events.iter().filter(|byte| **byte == b'\n').count();
         if lines > 0 && lines <= MOST_LINES_IN_TWO && self.runs.random.one_in(3) {
-            let in_two =
-                InTwo { programme: &run.programme, from: *from, events: &run.events, length: length as usize };
+            let scale = run.shares.as_deref().or(self.own.lent());
+            let (programme, events, length) = (&run.programme, &run.events, length as usize);
+            let in_two = InTwo { programme, scale, from: *from, events, length };
             tally.cuts += in_two.compare(&mut self.runs.random).map_err(|found| self.with_table(&found))?;
         }
         Ok(())
     }
 
     pub fn end(&self, tally: &mut Tally) -> Result<(), Difference> {
-        self.accepted.check(&self.ledger).map_err(|found| self.with_table(&found))?;
+        self.accepted.check(&self.ledger, self.own.scale.shares()).map_err(|found| self.with_table(&found))?;
         tally.count_history(&self.accepted.totals);
         Ok(())
     }
@@ -144,13 +169,21 @@ impl History {
         format!("{}\n{found}", shown("table", &self.runs.table.lines.concat()))
     }
 
-    fn difference(&self, run: &Run, lent: &raw::Standing, found: &Left, expected: &Left) -> Difference {
+    fn difference(
+        &self,
+        run: &Run,
+        scale: Option<&[u64]>,
+        lent: &raw::Standing,
+        found: &Left,
+        expected: &Left,
+    ) -> Difference {
         let mut lines = vec![self.with_table(&shown("events", &run.events))];
         if run.programme != self.programme {
             lines.push(format!("--- lent another programme\n{:?}", run.programme));
         }
         let is_changed = if run.standing.is_some() { ", changed on purpose" } else { "" };
         lines.push(format!("--- lent the standing{is_changed}\n{lent:?}"));
+        lines.push(format!("--- lent the scale\n{scale:?}"));
         for (name, left) in [("library", found), ("second calculation", expected)] {
             let length = if left.answer.refusal == 0 { left.answer.number } else { 0 };
             lines.push(format!("--- {name}: {:?}\n{:?}", left.answer, left.lent.standing));

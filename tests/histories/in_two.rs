@@ -52,6 +52,8 @@ impl Statement {
 /// The runs of a text and of its parts, all from one standing.
 pub struct InTwo<'a> {
     pub programme: &'a Programme,
+    /// The shares lent to each run, or none for the built-in ones.
+    pub scale: Option<&'a [u64]>,
     pub from: Standing,
     pub events: &'a [u8],
     /// The length of the whole text's statement.
@@ -61,7 +63,7 @@ pub struct InTwo<'a> {
 impl InTwo<'_> {
     fn run(&self, random: &mut Random, lent: &mut Lent, events: &[u8]) -> Result<Statement, Difference> {
         let mut room = Room::new(random, self.length + LONGER);
-        let answer = boundary::run(self.programme, lent, events, &mut room);
+        let answer = boundary::run(self.programme, lent, self.scale, events, &mut room);
         if answer.refusal == 0 {
             return Ok(Statement::new(room.text(answer.number)));
         }

@@ -2,6 +2,7 @@
 //! runs alone.
 
 use crate::calculation::table::{Layer, Programme};
+use crate::calculation::time::Scale;
 use crate::calculation::{self, take_over, Charges, Refusal, Standing};
 use crate::raw;
 use crate::records;
@@ -40,18 +41,25 @@ impl Ledger {
     }
 
     /// What events that were accepted from a standing brought to the layers that charge by time.
-    pub fn charges(&self, from: &raw::Standing, events: &[u8]) -> Vec<Charges<'_>> {
+    pub fn charges<'a>(&'a self, from: &raw::Standing, scale: &'a Scale, events: &[u8]) -> Vec<Charges<'a>> {
         let sums = take_over(&self.programme, &records::spent(from)).unwrap_or_default();
-        calculation::charges(&self.programme, &sums, events)
+        calculation::charges(&self.programme, &sums, scale, events)
     }
 
-    /// Runs events. Under another programme the run begins with the standing that this ledger comes to.
-    pub fn run(&mut self, programme: &raw::Programme, events: &[u8], buffer: &mut [u8]) -> Result<usize, Refusal> {
+    /// Runs events under a scale, or none where no text reads to the shares lent. Under another programme the run
+    /// begins with the standing that this ledger comes to.
+    pub fn run(
+        &mut self,
+        programme: &raw::Programme,
+        scale: Option<&Scale>,
+        events: &[u8],
+        buffer: &mut [u8],
+    ) -> Result<usize, Refusal> {
         if *programme == records::raw_programme(&self.programme) {
-            return calculation::run(&self.programme, &mut self.sums, events, buffer);
+            return calculation::run_scaled(&self.programme, &mut self.sums, scale, events, buffer);
         }
         let mut other = Ledger::from(programme, &self.standing())?;
-        let length = calculation::run(&other.programme, &mut other.sums, events, buffer)?;
+        let length = calculation::run_scaled(&other.programme, &mut other.sums, scale, events, buffer)?;
         *self = other;
         Ok(length)
     }

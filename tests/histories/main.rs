@@ -1,7 +1,7 @@
-//! Random histories: runs that are lent one standing, refused ones among them, through the library's calls, each
-//! compared with the second calculation's ledger. Called as `histories SEED COUNT`, or as `histories SEED only NUMBER`
-//! for one history of the seed. Ends with status 1 at the first difference, and when the histories of the seed do not
-//! reach all that they should.
+//! Random histories: runs that are lent one standing and one time scale, refused ones among them, through the library's
+//! calls, each compared with the second calculation's ledger. Called as `histories SEED COUNT`, or as `histories SEED
+//! only NUMBER` for one history of the seed. Ends with status 1 at the first difference, and when the histories of the
+//! seed do not reach all that they should.
 
 mod accepted;
 mod aim;
@@ -30,6 +30,9 @@ mod records;
 #[path = "../shared/roundings.rs"]
 mod roundings;
 mod runs;
+mod scaled;
+#[path = "../shared/scales.rs"]
+mod scales;
 #[path = "../shared/show.rs"]
 mod show;
 mod tally;
@@ -55,7 +58,7 @@ fn seeds(seed: u64) -> impl Iterator<Item = u64> {
 fn compare(seed: u64, tally: &mut Tally) -> Result<(), Difference> {
     let mut random = Random(seed);
     let runs = random.between(3, 12);
-    let mut history = History::open(random)?;
+    let mut history = History::open(random, tally)?;
     for number in 1..=runs {
         history.run(tally).map_err(|found| format!("run {number}\n{found}"))?;
     }

@@ -2,6 +2,7 @@
 
 use crate::aim;
 use crate::boundary::Room;
+use crate::calculation::time::Scale;
 use crate::calculation::{Refusal, EVENTS_BYTES};
 use crate::corrupt;
 use crate::damage::{self, Fault, NEARLY_FEEDS};
@@ -18,6 +19,8 @@ pub struct Run {
     pub programme: raw::Programme,
     /// A standing changed in one field, lent in place of the history's.
     pub standing: Option<raw::Standing>,
+    /// Shares lent in place of the history's.
+    pub shares: Option<Vec<u64>>,
     pub events: Vec<u8>,
     pub room: Room,
 }
@@ -27,19 +30,23 @@ pub struct Run {
 enum Rule {
     Programme,
     Standing,
+    Scale,
     Size,
     FirstDay,
     Line,
     Room,
 }
 
-const RULES: [Rule; 15] = [
+const RULES: [Rule; 18] = [
     Rule::Programme,
     Rule::Programme,
     Rule::Programme,
     Rule::Standing,
     Rule::Standing,
     Rule::Standing,
+    Rule::Scale,
+    Rule::Scale,
+    Rule::Scale,
     Rule::Size,
     Rule::FirstDay,
     Rule::Line,
@@ -72,6 +79,26 @@ enum Losses {
     Largest,
 }
 
+impl Run {
+    /// The scale that is lent, the history's or another; none where no text reads to its shares.
+    pub fn scale(&self, scale: &Scale) -> Option<Scale> {
+        match &self.shares {
+            Some(shares) => Scale::of_shares(shares),
+            None => Some(scale.clone()),
+        }
+    }
+
+    /// What the run comes to by the second calculation under another scale, or none, and with a buffer of another
+    /// length. With one of length 0 it is 7 and the length needed, where no other rule is broken.
+    pub fn result(&self, ledger: &Ledger, scale: Option<&Scale>, length: usize) -> Result<usize, Refusal> {
+        let mut ledger = match &self.standing {
+            Some(standing) => Ledger::from(&self.programme, standing)?,
+            None => ledger.clone(),
+        };
+        ledger.run(&self.programme, scale, &self.events, &mut vec![0; length])
+    }
+}
+
 /// Draws the runs of one history.
 pub struct Runs {
     pub random: Random,
@@ -90,14 +117,15 @@ impl Runs {
         Runs { random, table, scale, losses }
     }
 
-    /// The next run, from where the ledger stands.
-    pub fn next(&mut self, programme: &raw::Programme, ledger: &Ledger) -> Run {
+    /// The next run, from where the ledger stands, under the history's scale.
+    pub fn next(&mut self, programme: &raw::Programme, ledger: &Ledger, scale: &Scale) -> Run {
         let broken = self.broken();
         let breaks = |rule: Rule| broken.contains(&rule);
         let random = &mut self.random;
         let programme = if breaks(Rule::Programme) { corrupt::programme(random, programme) } else { *programme };
         let lent = ledger.standing();
         let standing = breaks(Rule::Standing).then(|| corrupt::standing(random, &ledger.programme, &lent));
+        let shares = breaks(Rule::Scale).then(|| corrupt::shares(random, scale.shares()));
         let mut lines = self.lines(ledger);
         if breaks(Rule::FirstDay) {
             first_day(&mut self.random, &mut lines, lent.day);
@@ -106,9 +134,11 @@ impl Runs {
             self.damage(&mut lines, lent.day);
         }
         let events = if breaks(Rule::Size) { self.full(&lines, lent.day) } else { lines.concat() };
-        let trial = try_without_room(&programme, standing.as_ref(), &events, ledger);
+        let mut run = Run { programme, standing, shares, events, room: Room::new(&mut self.random, 0) };
+        let trial = run.result(ledger, run.scale(scale).as_ref(), 0);
         let length = self.length(trial, breaks(Rule::Room));
-        Run { programme, standing, events, room: Room::new(&mut self.random, length) }
+        run.room = Room::new(&mut self.random, length);
+        run
     }
 
     fn broken(&mut self) -> Vec<Rule> {
@@ -213,16 +243,3 @@ fn line_end(random: &mut Random, lines: &mut Lines, place: usize) {
     damage::end_otherwise(&mut lines[place], random.place(NEARLY_FEEDS.len() + 1));
 }
 
-/// What a run with a buffer of length 0 comes to: 7 and the length needed where no other rule is broken.
-fn try_without_room(
-    programme: &raw::Programme,
-    standing: Option<&raw::Standing>,
-    events: &[u8],
-    ledger: &Ledger,
-) -> Result<usize, Refusal> {
-    let mut ledger = match standing {
-        Some(standing) => Ledger::from(programme, standing)?,
-        None => ledger.clone(),
-    };
-    ledger.run(programme, events, &mut [])
-}

@@ -9,13 +9,14 @@ use crate::raw::{Answer, Programme, Standing};
 use crate::rates::Rates;
 use crate::roundings::Roundings;
 use crate::runs::Run;
+use crate::scaled::Scaled;
 use crate::timed::Timed;
 use crate::times::Times;
 use crate::totals::has_all;
 use std::collections::BTreeMap;
 
 /// The refusals that a run can give.
-const REFUSALS: [u64; 9] = [6, 7, 8, 9, 10, 11, 12, 13, 14];
+const REFUSALS: [u64; 10] = [6, 7, 8, 9, 10, 11, 12, 13, 14, 28];
 
 /// For a hundred histories, how many runs have each refusal, and how many a buffer that just fits or is one byte
 /// short.
@@ -55,7 +56,7 @@ pub struct Tally {
     runs: usize,
     accepted: usize,
     refused: BTreeMap<u64, usize>,
-    /// Runs accepted with a programme or a standing changed in one field.
+    /// Runs accepted with a programme, a standing or a scale changed in one field.
     changed: usize,
     fitting: usize,
     one_short: usize,
@@ -70,6 +71,7 @@ pub struct Tally {
     misrated: [usize; MISRATED.len()],
     pub times: Times,
     pub timed: Timed,
+    pub scaled: Scaled,
     feeds: Feeds,
     /// Of the history under way.
     reaches: [bool; BOUNDS.len()],
@@ -100,7 +102,8 @@ impl Tally {
         self.runs += 1;
         if answer.refusal == 0 {
             self.accepted += 1;
-            self.changed += usize::from(run.standing.is_some() || run.programme != *programme);
+            let has_other = run.standing.is_some() || run.shares.is_some();
+            self.changed += usize::from(has_other || run.programme != *programme);
             self.fitting += usize::from(answer.number == length);
         } else {
             *self.refused.entry(answer.refusal).or_default() += 1;
@@ -160,6 +163,7 @@ impl Tally {
         println!("histories: rates refused with 6: {}", counts.collect::<Vec<String>>().join(", "));
         println!("histories: {}", self.times.shown());
         println!("histories: {}", self.timed.shown());
+        println!("histories: {}", self.scaled.shown());
         println!("histories: {}", self.feeds.shown());
     }
 
@@ -180,6 +184,8 @@ impl Tally {
         }
         let timed = self.timed.counts().into_iter();
         counts.extend(timed.map(|(name, count, least)| (format!("by time: {name}"), count, least)));
+        let scaled = self.scaled.counts().into_iter();
+        counts.extend(scaled.map(|(name, count, least)| (format!("scales: {name}"), count, least)));
         for refusal in REFUSALS {
             let count = self.refused.get(&refusal).copied().unwrap_or(0);
             counts.push((format!("runs refused with {refusal}"), count, LEAST_RUNS));

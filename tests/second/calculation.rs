@@ -1,9 +1,9 @@
-//! The second calculation of document 01, with rates, event limits, premium by time and rounding as of document 02,
-//! in ordinary Rust and without the engine's code. Each layer keeps the sum of all losses
-//! brought to it, never cut off, and every figure is computed from that sum cut off at the cap. Premium by time is the
-//! one that is not: it is the sum of what each loss was charged. So with treaties: one keeps the sum of what an
-//! event's losses offer it, not cut to the event limit, and of a loss as much is ceded as the cut sum grows by. Net is
-//! added up from what the insurer keeps, never taken as gross less recoveries.
+//! The second calculation of document 01, with rates, event limits, premium by time, a client's own time scale and
+//! rounding as of document 02, Q-2, Q-3, Q-4, Q-12 and Q-8, in ordinary Rust and without the engine's code. Each layer
+//! keeps the sum of all losses brought to it, never cut off, and every figure is computed from that sum cut off at the
+//! cap. Premium by time is the one that is not: it is the sum of what each loss was charged. So with treaties: one
+//! keeps the sum of what an event's losses offer it, not cut to the event limit, and of a loss as much is ceded as the
+//! cut sum grows by. Net is added up from what the insurer keeps, never taken as gross less recoveries.
 
 #[path = "events.rs"]
 pub mod events;
@@ -16,7 +16,7 @@ mod statement;
 #[path = "table.rs"]
 pub mod table;
 #[path = "time.rs"]
-mod time;
+pub mod time;
 #[path = "words.rs"]
 mod words;
 
@@ -25,6 +25,7 @@ pub use statement::Charges;
 use statement::Run;
 pub use table::{read_table, Programme};
 use table::{Layer, MOST_LAYERS};
+use time::Scale;
 
 /// A refusal and its second number.
 pub type Refusal = (u64, u64);
@@ -89,9 +90,21 @@ pub fn open(programme: &Programme) -> Result<Standing, Refusal> {
 }
 
 /// Runs events, moves the standing and writes the statement into the buffer; gives its length.
+#[allow(dead_code)] // a test that lends a scale calls the other
 pub fn run(
     programme: &Programme,
     standing: &mut Standing,
+    events: &[u8],
+    buffer: &mut [u8],
+) -> Result<usize, Refusal> {
+    run_scaled(programme, standing, Some(&Scale::built_in()), events, buffer)
+}
+
+/// The same with premium by time charged by a scale: none where no text reads to the shares that were lent.
+pub fn run_scaled(
+    programme: &Programme,
+    standing: &mut Standing,
+    scale: Option<&Scale>,
     events: &[u8],
     buffer: &mut [u8],
 ) -> Result<usize, Refusal> {
@@ -101,11 +114,12 @@ pub fn run(
     if !standing.is_of(programme) {
         return Err((8, 0));
     }
+    let scale = scale.ok_or((28, 0))?;
     if events.len() > EVENTS_BYTES {
         return Err((9, 0));
     }
     let events = read_events(programme, standing.day, events)?;
-    let mut run = Run::new(programme, standing);
+    let mut run = Run::new(programme, standing, scale);
     let statement = run.statement(&events);
     let lent = buffer.get_mut(..statement.len()).ok_or((7, statement.len() as u64))?;
     lent.copy_from_slice(&statement);
@@ -115,8 +129,13 @@ pub fn run(
 
 /// What the events of an accepted text bring, one after the other, to the layers that charge by time.
 #[allow(dead_code)] // the random years and histories count them
-pub fn charges<'a>(programme: &'a Programme, standing: &Standing, events: &[u8]) -> Vec<Charges<'a>> {
+pub fn charges<'a>(
+    programme: &'a Programme,
+    standing: &Standing,
+    scale: &'a Scale,
+    events: &[u8],
+) -> Vec<Charges<'a>> {
     let events = read_events(programme, standing.day, events).unwrap_or_default();
-    let mut run = Run::new(programme, standing);
+    let mut run = Run::new(programme, standing, scale);
     events.iter().flat_map(|event| run.charges(event)).collect()
 }

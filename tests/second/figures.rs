@@ -5,7 +5,8 @@ mod calculation;
 mod printed;
 
 use calculation::table::write_table;
-use calculation::{open, read_table, run, take_over, Programme, Refusal, Spent, Standing};
+use calculation::time::{read_scale, write_scale, Scale};
+use calculation::{open, read_table, run, run_scaled, take_over, Programme, Refusal, Spent, Standing};
 use printed::printed;
 
 const SIDNEY_TABLE: &str = "\
@@ -257,6 +258,51 @@ fn by_time(checks: &mut Checks) {
     checks.equal("no reinstatement by time", charged_alone(none, &[1], &[9]), vec![0]);
 }
 
+/// The lines of a scale, each with the share of its day.
+fn days(share: impl Fn(u64) -> u64) -> Vec<String> {
+    (1..=366).map(|day| format!("(day {day} {})\n", share(day))).collect()
+}
+
+/// The premium of a loss of 500,000 on each of the days, each in a year of its own, under a scale.
+fn charged_under(scale: &Scale, table: &str, on: &[u64]) -> Vec<u64> {
+    let programme = read_table(table.as_bytes()).unwrap();
+    let charged = |day: &u64| {
+        let (mut standing, mut buffer) = (open(&programme).unwrap(), [0; 2_000]);
+        let events = dated(*day, &[500_000]);
+        let length = run_scaled(&programme, &mut standing, Some(scale), events.as_bytes(), &mut buffer).unwrap();
+        let statement = String::from_utf8(buffer[..length].to_vec()).unwrap();
+        checked_premium(&column(&statement, "(layer", "premium"), &column(&statement, "(event", "premium"))
+    };
+    on.iter().map(charged).collect()
+}
+
+/// The premium of the only layer, which is that of the only event.
+fn checked_premium(of_layers: &[u64], of_events: &[u64]) -> u64 {
+    assert_eq!((of_layers, of_events.len()), (of_events, 1));
+    of_layers[0]
+}
+
+/// Premium under scales of a client's own, worked out by hand.
+fn by_scale(checks: &mut Checks) {
+    let scale = |share: fn(u64) -> u64| read_scale(days(share).concat().as_bytes()).unwrap();
+    let (cat, risk) = (timed_layer("cat"), timed_layer("risk"));
+    // 182,500 x 7,201 / 10,000 = 131,418.25; 182,500 x 6,667 / 10,000 = 121,672.75; 182,500 x 3,333 / 10,000 =
+    // 60,827.25; 182,500 x 1 / 10,000 = 18.25.
+    let steps = scale(|day| [7_201, 6_667, 3_333, 1, 0][(day as usize - 1).div_ceil(100)]);
+    let on = [1, 2, 101, 102, 184, 201, 202, 301, 302, 366];
+    let premiums = vec![131_418, 121_673, 121_673, 60_827, 60_827, 60_827, 18, 18, 0, 0];
+    checks.equal("cat layer by steps", charged_under(&steps, &cat, &on), premiums.clone());
+    checks.equal("risk layer by steps", charged_under(&steps, &risk, &on), premiums);
+    checks.equal("by the whole", charged_under(&scale(|_| 10_000), &cat, &[1, 366]), vec![182_500; 2]);
+    checks.equal("by nothing", charged_under(&scale(|_| 0), &cat, &[1, 366]), vec![0; 2]);
+    let untimed = cat.replace(" (time)", "");
+    checks.equal("without (time) by a scale", charged_under(&steps, &untimed, &[1, 366]), vec![182_500; 2]);
+    let listed = [(1, 10_000), (2, 9_972), (74, 8_000), (184, 4_986), (293, 2_000), (365, 27), (366, 0)];
+    let built_in = Scale::built_in();
+    checks.equal("built-in shares", listed.map(|(day, _)| built_in.share_of(day)), listed.map(|(_, share)| share));
+    checks.equal("the built-in as a text", read_scale(&write_scale(built_in.shares())), Ok(built_in));
+}
+
 fn band(attachment: u64, limit: u64) -> String {
     format!("(risk (band {attachment} {limit}) (deduct 0) (back 0 0) (placed 10000))\n")
 }
@@ -346,6 +392,85 @@ fn refused_times(checks: &mut Checks) {
     checks.refused("a range after the form", &with_end(" (time))").replace("7201", "10001"), "", 3, 1);
 }
 
+/// A scale text with other words in place of a line, and what it is refused with.
+fn refused_line(checks: &mut Checks, line: u64, words: &str, refusal: u64) {
+    let mut lines = days(|day| 9_000 - 10 * day);
+    lines[line as usize - 1] = format!("{words}\n");
+    checks.equal(words, read_scale(lines.concat().as_bytes()), Err((refusal, line)));
+}
+
+/// Scales of 366 lines of which one is at fault: 28 before 29 before 30.
+fn refused_days(checks: &mut Checks) {
+    let seventeen = format!("(day 1 {})", "1".repeat(17));
+    let no_forms = ["(day 01 5)", "(day 1 05)", "(day 1 00)", &seventeen, "(day 1 5)\r", " (day 1 5)", "(day 1 5) "];
+    let no_words = ["", "(day 1)", "(day 1 5 5)", "(day  1 5)", "(day 1  5)", "(Day 1 5)", "(day 1 -5)", "day 1 5"];
+    let no_days = ["(day 0 5)", "(day 2 5)", "(day 367 5)", "(day 2 10001)"];
+    for words in no_forms.into_iter().chain(no_words).chain(no_days) {
+        refused_line(checks, 1, words, 28);
+    }
+    refused_line(checks, 366, "(day 367 0)", 28);
+    refused_line(checks, 200, "(day 199 0)", 28);
+    refused_line(checks, 200, "(day 201 7011)", 28);
+    refused_line(checks, 1, "(day 1 10001)", 29);
+    refused_line(checks, 200, "(day 200 10001)", 29);
+    refused_line(checks, 366, &format!("(day 366 {})", "9".repeat(16)), 29);
+    // Day 199 has 7,010, day 365 5,350.
+    refused_line(checks, 200, "(day 200 7011)", 30);
+    refused_line(checks, 366, "(day 366 5351)", 30);
+}
+
+/// Scales with too few lines or too many, and with several faults: the first line from the top decides.
+fn refused_scales(checks: &mut Checks) {
+    let text = days(|day| 9_000 - 10 * day).concat();
+    let read = |text: &str| read_scale(text.as_bytes()).map(|scale| scale.shares().to_vec());
+    let shares: Vec<u64> = (1..=366).map(|day| 9_000 - 10 * day).collect();
+    checks.equal("a scale", read(&text), Ok(shares.clone()));
+    let lines = |count: usize| days(|_| 7)[..count].concat();
+    checks.equal("no lines", read(""), Err((28, 0)));
+    checks.equal("365 lines", read(&lines(365)), Err((28, 0)));
+    for more in ["(day 367 7)\n", "(day 1 7)\n", "\n", "x", "(day 367 10001"] {
+        checks.equal(more, read(&(text.clone() + more)), Err((28, 367)));
+    }
+    checks.equal("no last line feed", read(&text[..text.len() - 1]), Err((28, 366)));
+    checks.equal("no line feed in 10 lines", read(lines(10).trim_end()), Err((28, 10)));
+    let third = |words: &str| lines(10).replace("(day 3 7)", words);
+    checks.equal("a share in 10 lines", read(&third("(day 3 10001)")), Err((29, 3)));
+    checks.equal("a rising share in 10 lines", read(&third("(day 3 8)")), Err((30, 3)));
+    checks.equal("the first of two faults", read(&third("(day 3 8)\nx")), Err((30, 3)));
+    checks.equal("carriage returns", read(&text.replace('\n', "\r\n")), Err((28, 1)));
+    for changed in [&shares[1..], &[], &[shares.as_slice(), &[0]].concat()] {
+        checks.equal("lent so many", Scale::of_shares(changed), None);
+    }
+    checks.equal("lent as read", Scale::of_shares(&shares).is_some(), true);
+    for (place, share) in [(0, 10_001), (1, 8_991), (365, 5_351), (9, u64::MAX)] {
+        let changed: Vec<u64> = (0..366).map(|other| if other == place { share } else { shares[other] }).collect();
+        checks.equal("lent with another share", Scale::of_shares(&changed), None);
+    }
+}
+
+/// A run that is lent no scale is refused with 28, after 6 and 8 and before the events are looked at.
+fn refused_under(checks: &mut Checks) {
+    let programme = read_table(timed_layer("cat").as_bytes()).unwrap();
+    let mut broken = programme.clone();
+    broken.cat[0].limit = 0;
+    let mut spent = Standing::default();
+    spent.risk[0] = 1;
+    let long = "x".repeat(65_537);
+    let refused = |programme: &Programme, standing: &Standing, events: &str| {
+        let (mut left, mut buffer) = (standing.clone(), [7; 200]);
+        let answer = run_scaled(programme, &mut left, None, events.as_bytes(), &mut buffer);
+        assert_eq!((&left, buffer), (standing, [7; 200]));
+        answer
+    };
+    checks.equal("6 before 28", refused(&broken, &spent, &long), Err((6, 0)));
+    checks.equal("8 before 28", refused(&programme, &spent, &long), Err((8, 0)));
+    for events in [&long, "x", "(event 367)\n", "(event 9)\n", ""] {
+        checks.equal("28 before 9 to 14 and 7", refused(&programme, &Standing::default(), events), Err((28, 0)));
+    }
+    let untimed = read_table(b"").unwrap();
+    checks.equal("28 without (time)", refused(&untimed, &Standing::default(), ""), Err((28, 0)));
+}
+
 fn refused_events(checks: &mut Checks) {
     let total = "(total (gross 0) (ceded 0) (risk 0) (cat 0) (net 0) (premium 0))\n";
     checks.equal("empty texts", program("", "").as_str(), total);
@@ -413,13 +538,13 @@ fn refused_timed(checks: &mut Checks) {
     checks.equal("what it leaves", (standing.risk_timed[0], standing.cat_timed[0]), (90_995, 7));
 }
 
-/// Runs the texts one after the other; each answer is the statement or the refusal.
-fn history(programme: &Programme, texts: &[&str]) -> (Standing, Vec<Result<String, Refusal>>) {
+/// Runs the texts one after the other under a scale; each answer is the statement or the refusal.
+fn history(programme: &Programme, scale: &Scale, texts: &[&str]) -> (Standing, Vec<Result<String, Refusal>>) {
     let mut standing = open(programme).unwrap();
     let mut answers = Vec::new();
     for text in texts {
         let mut buffer = [0; 2_000];
-        let answer = run(programme, &mut standing, text.as_bytes(), &mut buffer);
+        let answer = run_scaled(programme, &mut standing, Some(scale), text.as_bytes(), &mut buffer);
         answers.push(answer.map(|length| String::from_utf8(buffer[..length].to_vec()).unwrap()));
     }
     (standing, answers)
@@ -427,10 +552,11 @@ fn history(programme: &Programme, texts: &[&str]) -> (Standing, Vec<Result<Strin
 
 /// A year run by run has the lines of the year in one run, and a refused run changes nothing.
 fn histories(checks: &mut Checks) {
-    let programme = read_table(SIDNEY_TABLE.as_bytes()).unwrap();
+    let (programme, scale) = (read_table(SIDNEY_TABLE.as_bytes()).unwrap(), Scale::built_in());
     let lines = ["(event 100 (loss 0 9 110000001))\n", "(event 230 (loss 0 9 350000003))\n", "(event 231)\n"];
-    let (whole, whole_answers) = history(&programme, &[&lines.concat()]);
-    let (parts, part_answers) = history(&programme, &[lines[0], "(event 99)\n", lines[1], "", lines[2]]);
+    let (whole, whole_answers) = history(&programme, &scale, &[&lines.concat()]);
+    let texts = [lines[0], "(event 99)\n", lines[1], "", lines[2]];
+    let (parts, part_answers) = history(&programme, &scale, &texts);
     checks.equal("standing after runs", parts, whole);
     checks.equal("a refused run", part_answers[1].clone(), Err((13, 1)));
     let whole_text = whole_answers[0].clone().unwrap();
@@ -442,18 +568,27 @@ fn histories(checks: &mut Checks) {
     checks.equal("layer lines of the last run", select(&texts[3], "(layer"), select(&whole_text, "(layer"));
 }
 
-/// A layer by time over several runs has the ledger of one run; a refused run charges nothing.
-fn timed_histories(checks: &mut Checks) {
+/// A layer by time over several runs has the ledger of one run under the same scale; a refused run charges nothing.
+/// The two losses that have an amount premium are charged so much.
+fn timed_history(checks: &mut Checks, scale: &Scale, [first, second]: [u64; 2]) {
     let programme = read_table(timed_layer("cat").as_bytes()).unwrap();
     let lines = [dated(100, &[300_000, 200_000]), dated(184, &[500_000]), dated(366, &[500_000])];
-    let (whole, _) = history(&programme, &[&lines.concat()]);
-    let (parts, answers) = history(&programme, &[&lines[0], "(event 99)\n", &lines[1], "", &lines[2]]);
-    checks.equal("timed premium after runs", parts.cat_timed[0], 132_988 + 90_995);
+    let (whole, _) = history(&programme, scale, &[&lines.concat()]);
+    let (parts, answers) = history(&programme, scale, &[&lines[0], "(event 99)\n", &lines[1], "", &lines[2]]);
+    checks.equal("timed premium after runs", parts.cat_timed[0], first + second);
     checks.equal("timed standing after runs", parts, whole);
     checks.equal("a refused run between", answers[1].clone(), Err((13, 1)));
     let premiums: Vec<u64> =
         answers.iter().flatten().flat_map(|statement| column(statement, "(layer", "premium")).collect();
-    checks.equal("layer lines of the runs", premiums, vec![132_988, 223_983, 223_983, 223_983]);
+    let sum = first + second;
+    checks.equal("layer lines of the runs", premiums, vec![first, sum, sum, sum]);
+}
+
+fn timed_histories(checks: &mut Checks) {
+    timed_history(checks, &Scale::built_in(), [132_988, 90_995]);
+    // 182,500 x 7,201 / 10,000 = 131,418.25, and 182,500 x 3,333 / 10,000 = 60,827.25.
+    let lines = days(|day| if day < 184 { 7_201 } else { 3_333 });
+    timed_history(checks, &read_scale(lines.concat().as_bytes()).unwrap(), [131_418, 60_827]);
 }
 
 fn main() {
@@ -464,9 +599,13 @@ fn main() {
     rates(&mut checks);
     time_shares(&mut checks);
     by_time(&mut checks);
+    by_scale(&mut checks);
     refused_tables(&mut checks);
     refused_rates(&mut checks);
     refused_times(&mut checks);
+    refused_days(&mut checks);
+    refused_scales(&mut checks);
+    refused_under(&mut checks);
     refused_events(&mut checks);
     refused_records(&mut checks);
     refused_timed(&mut checks);

@@ -1,10 +1,10 @@
 //! The engine's program over the second calculation: the table from programme.txt in the current folder, events from
-//! standard input, the statement or the refusal on standard output.
+//! standard input, the statement or the refusal on standard output. Called with a file's name, under the scale in it.
 
 mod calculation;
 mod printed;
 
-use std::fs::File;
+use std::fs::{self, File};
 use std::io::{self, Read, Write};
 
 /// Reads one byte more than the most that is accepted, so that a longer text shows.
@@ -17,5 +17,6 @@ fn text(source: impl Read, most: usize) -> io::Result<Vec<u8>> {
 fn main() -> io::Result<()> {
     let table = File::open("programme.txt").and_then(|file| text(file, calculation::table::TABLE_BYTES));
     let events = text(io::stdin(), calculation::EVENTS_BYTES)?;
-    io::stdout().write_all(&printed::printed(table.as_deref().ok(), &events))
+    let scale = std::env::args().nth(1).map(fs::read).transpose()?;
+    io::stdout().write_all(&printed::printed_under(scale.as_deref(), table.as_deref().ok(), &events))
 }

@@ -3,7 +3,7 @@
 use super::events::Event;
 use super::formulas::{accounts, through, Account};
 use super::table::{Layer, Programme, MOST_TREATIES};
-use super::time::share_of;
+use super::time::Scale;
 use super::Standing;
 
 #[derive(Clone, Copy, Default)]
@@ -40,15 +40,17 @@ pub struct Charges<'a> {
 /// A run under way.
 pub struct Run<'a> {
     programme: &'a Programme,
+    scale: &'a Scale,
     ceded: Vec<u64>,
     risk: Vec<Account<'a>>,
     cat: Vec<Account<'a>>,
 }
 
 impl<'a> Run<'a> {
-    pub fn new(programme: &'a Programme, standing: &Standing) -> Self {
+    pub fn new(programme: &'a Programme, standing: &Standing, scale: &'a Scale) -> Self {
         Run {
             programme,
+            scale,
             ceded: vec![0; programme.treaties.len()],
             risk: accounts(&programme.risk, &standing.risk, &standing.risk_timed),
             cat: accounts(&programme.cat, &standing.cat, &standing.cat_timed),
@@ -59,7 +61,7 @@ impl<'a> Run<'a> {
         let mut amounts = Amounts::default();
         let mut offered = [0; MOST_TREATIES as usize];
         let mut subject = 0;
-        let share = share_of(event.day);
+        let share = self.scale.share_of(event.day);
         for loss in &event.losses {
             let mut left = loss.amount;
             if let Some(place) = self.programme.treaty(loss.treaty) {
@@ -126,7 +128,7 @@ impl<'a> Run<'a> {
             layer: account.layer,
             is_risk,
             day: event.day,
-            share: share_of(event.day),
+            share: self.scale.share_of(event.day),
             amount_premiums: std::mem::take(&mut account.by_time),
         });
         charges.filter(|charges| !charges.amount_premiums.is_empty()).collect()

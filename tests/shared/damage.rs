@@ -1,5 +1,5 @@
-//! Faults put into the lines of a text that is accepted, a table or events: each aims at one refusal, or at none in
-//! particular.
+//! Faults put into the lines of a text that is accepted, a table, events or a scale: each aims at one refusal, or at
+//! none in particular.
 
 use crate::draw::{line, Lines, LARGEST_AMOUNT, LARGEST_RATE, MOST_RATES};
 use crate::random::Random;
@@ -19,6 +19,7 @@ pub const LAYER: [Range; 6] =
     [AMOUNT, (1, LARGEST_AMOUNT), (0, 1_000_000_000_000_000), (0, MOST_RATES), (0, 1_000_000_000_000), SHARE];
 pub const RATE: Range = (0, LARGEST_RATE);
 const LOSS: [Range; 3] = [(0, 8), (1, LARGEST_AMOUNT), AMOUNT];
+const DAY: [Range; 2] = [(1, 366), SHARE];
 
 /// Bytes next to the line feed in number, a bit away from it, or above 127.
 pub const NEARLY_FEEDS: [u8; 8] = [0x08, 0x09, 0x0b, 0x0e, 0x1a, 0x8a, 0x8b, 0xff];
@@ -31,6 +32,8 @@ pub fn ranges(line: &[u8]) -> Vec<Range> {
         SURPLUS.to_vec()
     } else if line.starts_with(b"(event") {
         std::iter::once((1, 366)).chain(LOSS.into_iter().cycle().take(300)).collect()
+    } else if line.starts_with(b"(day") {
+        DAY.to_vec()
     } else {
         let rates = vec![RATE; number_places(line).len().saturating_sub(LAYER.len())];
         [&LAYER[..5], &rates, &LAYER[5..]].concat()
@@ -139,7 +142,7 @@ fn no_word(random: &mut Random, line: &mut [u8]) {
     };
 }
 
-/// Refusals 2 and 10: a line out of form.
+/// Refusals 2, 10 and 28: a line out of form.
 pub fn form(random: &mut Random, lines: &mut Lines, place: usize) {
     match random.between(0, 3) {
         0 => no_number(random, &mut lines[place]),
@@ -149,7 +152,8 @@ pub fn form(random: &mut Random, lines: &mut Lines, place: usize) {
     }
 }
 
-/// Refusals 3 and 11: a number outside its range; of a layer's K it makes a line out of form.
+/// Refusals 3, 11 and 29: a number outside its range; of a layer's K, and of a scale's day, it makes a line out of
+/// form.
 pub fn range(random: &mut Random, lines: &mut Lines, place: usize) {
     let ranges = ranges(&lines[place]);
     if ranges.is_empty() {

@@ -27,11 +27,17 @@ build_rust() {
     rustc --edition 2021 -O -C debug-assertions=on -D warnings "${@:3}" "$1" -o "$2"
 }
 
-# The statement of every example, from the program named.
+# The statement of every example, from the program named. An example with a time scale is left out, unless $2 is
+# 'scaled': the program is then given the scale's file.
 compare_examples() {
-    local folder count=0
+    local folder scale count=0
     for folder in examples/*/; do
-        (cd "$folder" && timeout 10 "$1" < events.txt) | cmp - "$folder/statement.txt" ||
+        scale=()
+        if [[ -f $folder/scale.txt ]]; then
+            [[ ${2-} == scaled ]] || continue
+            scale=(scale.txt)
+        fi
+        (cd "$folder" && timeout 10 "$1" "${scale[@]}" < events.txt) | cmp - "$folder/statement.txt" ||
             fail "$1 does not print ${folder}statement.txt"
         count=$((count + 1))
     done

@@ -1,7 +1,7 @@
 // Each call in a thread whose stack has so many bytes in all, compared with the same calls on the main thread. Called
 // as `calls PROGRAMME EVENTS STACK REFUSAL ROOM` with two files, the first a table without a free place, the bytes of
-// the stack, the refusal that the run answers, 0 for none, and the bytes of the buffer lent to it. A call that needs
-// more stack ends the process by a signal.
+// the stack, the refusal that the run answers, also under a scale, 0 for none, and the bytes of the buffer lent to it.
+// A call that needs more stack ends the process by a signal.
 #define _POSIX_C_SOURCE 200809L
 #include "cession.h"
 
@@ -19,17 +19,24 @@ typedef struct {
     size_t length;
 } text;
 
+// What a run answers and leaves.
+typedef struct {
+    cession_answer answer;
+    cession_standing standing;
+    uint8_t statement[MOST];
+} ran;
+
 typedef struct {
     cession_reading reading;
     cession_opening opening;
     cession_answer writing;
     uint8_t written[CESSION_TABLE_BYTES];
-    cession_answer running;
-    cession_standing standing;
-    uint8_t statement[MOST];
+    cession_scale_reading scale;
+    ran running;
+    ran scaled;
 } outcome;
 
-static text table, events;
+static text table, scale, events;
 static outcome on_main, in_thread;
 static size_t room;
 
@@ -47,13 +54,26 @@ static void load(const char *path, text *into) {
     fclose(file);
 }
 
+// A scale that charges by the days left, in tenths of the year.
+static void make_scale(void) {
+    for (int day = 1; day <= CESSION_DAYS; day++) {
+        char *end = (char *)scale.bytes + scale.length;
+        scale.length += (size_t)sprintf(end, "(day %d %d)\n", day, 1000 * ((375 - day) / 37));
+    }
+}
+
 static void *call(void *into) {
     outcome *left = into;
     const cession_programme *programme = &left->reading.programme;
     left->reading = cession_read(table.bytes, table.length);
     left->opening = cession_open(*programme);
     left->writing = cession_write(*programme, left->written, sizeof left->written);
-    left->running = cession_run(*programme, &left->standing, events.bytes, events.length, left->statement, room);
+    left->scale = cession_read_scale(scale.bytes, scale.length);
+    left->running.answer = cession_run(*programme, &left->running.standing, events.bytes, events.length,
+                                       left->running.statement, room);
+    left->scaled.answer =
+        cession_run_scaled(*programme, &left->scaled.standing, left->scale.scale.shares, CESSION_DAYS, events.bytes,
+                           events.length, left->scaled.statement, room);
     return NULL;
 }
 
@@ -85,14 +105,19 @@ int main(int count, char **arguments) {
     }
     load(arguments[1], &table);
     load(arguments[2], &events);
+    make_scale();
     room = strtoull(arguments[5], NULL, 10);
     if (room > MOST) {
         fail("so large a buffer is not here");
     }
     call(&on_main);
     check_table();
-    if (on_main.running.refusal != strtoull(arguments[4], NULL, 10)) {
-        fail("the run on the main thread is answered in another way");
+    if (on_main.scale.refusal != CESSION_ACCEPTED) {
+        fail("the scale is refused");
+    }
+    uint64_t refusal = strtoull(arguments[4], NULL, 10);
+    if (on_main.running.answer.refusal != refusal || on_main.scaled.answer.refusal != refusal) {
+        fail("a run on the main thread is answered in another way");
     }
     call_in_thread(strtoull(arguments[3], NULL, 10));
     if (memcmp(&on_main, &in_thread, sizeof on_main) != 0) {

@@ -142,7 +142,7 @@ impl Cases {
     }
 
     /// A year that is accepted; one with cessions, recoveries of both tiers and premium if one comes up soon.
-    fn year(&mut self) -> Case {
+    pub fn year(&mut self) -> Case {
         let mut tries = 12;
         loop {
             let count = self.random.pick(&[1, 2, 3, 5, 8, 13, 21]);

@@ -1,6 +1,6 @@
 //! Random years: runs a program on each and compares what it prints, byte for byte, with the second calculation.
-//! Called as `years PROGRAM SEED COUNT`. Ends with status 1 at the first difference, and when the years of the seed
-//! do not reach all that they should.
+//! Called as `years PROGRAM SEED COUNT`, or as `years scaled COMMAND SEED COUNT` for years under time scales. Ends with
+//! status 1 at the first difference, and when the years of the seed do not reach all that they should.
 
 #[path = "../second/calculation.rs"]
 mod calculation;
@@ -21,6 +21,10 @@ mod random;
 mod rates;
 #[path = "../shared/roundings.rs"]
 mod roundings;
+mod scaled;
+#[path = "../shared/scales.rs"]
+#[allow(dead_code)] // the histories tell the faults of texts apart
+mod scales;
 #[path = "../shared/show.rs"]
 mod show;
 mod table_damage;
@@ -92,21 +96,28 @@ fn report(folder: &Path, case: &Case, expected: &[u8], found: &io::Result<Vec<u8
 }
 
 fn usage() -> ! {
-    eprintln!("years: call as years PROGRAM SEED COUNT");
+    eprintln!("years: call as years PROGRAM SEED COUNT or years scaled COMMAND SEED COUNT");
     exit(2);
 }
 
-fn arguments() -> Option<(PathBuf, u64, usize)> {
+/// The program or the command, whether it is to be given scales, the seed and how many years.
+fn arguments() -> Option<(PathBuf, bool, u64, usize)> {
     let arguments: Vec<String> = env::args().skip(1).collect();
-    let [program, seed, count] = arguments.as_slice() else {
-        return None;
+    let words: Vec<&str> = arguments.iter().map(String::as_str).collect();
+    let (is_scaled, words) = match words.as_slice() {
+        ["scaled", words @ ..] => (true, words),
+        words => (false, words),
     };
-    Some((fs::canonicalize(program).ok()?, seed.parse().ok()?, count.parse().ok()?))
+    let [program, seed, count] = words else { return None };
+    Some((fs::canonicalize(program).ok()?, is_scaled, seed.parse().ok()?, count.parse().ok()?))
 }
 
 fn main() -> io::Result<()> {
-    let Some((program, seed, count)) = arguments() else { usage() };
+    let Some((program, is_scaled, seed, count)) = arguments() else { usage() };
     let folder = env::current_exe()?.with_file_name(format!("years-{}", std::process::id()));
+    if is_scaled {
+        return scaled::compare(&program, &folder, seed, count);
+    }
     let mut cases = Cases::new(seed);
     let mut tally = Tally::default();
     for number in 1..=count {

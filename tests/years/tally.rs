@@ -1,5 +1,6 @@
 //! What the years compared so far have reached.
 
+use crate::calculation::time::Scale;
 use crate::calculation::{charges, read_table, Standing};
 use crate::feeds::Feeds;
 use crate::limits::Limits;
@@ -66,7 +67,8 @@ impl Tally {
         self.table_feeds.count(table, None);
         self.events_feeds.count(events, None);
         if let Ok(programme) = read_table(table) {
-            let charges = charges(&programme, &Standing::default(), events);
+            let scale = Scale::built_in();
+            let charges = charges(&programme, &Standing::default(), &scale, events);
             self.limits.count(&programme, events);
             self.roundings.count(&programme, events, printed, &charges);
             self.rates.count(&programme, printed);
