@@ -62,6 +62,7 @@ files := \
 	755:$(built)/libcession.so:lib \
 	755:$(command):libexec/cession \
 	644:scripts/chart.py:libexec/cession \
+	644:scripts/scaled.py:libexec/cession \
 	$(patsubst %,644:%:libexec/cession/drawing,$(wildcard scripts/drawing/*.py)) \
 	$(patsubst %,644:%:$(python),$(wildcard bindings/python/cession/*.py)) \
 	$(patsubst %,644:examples/hurricane-sidney/%.txt:share/cession/hurricane-sidney,programme events statement) \

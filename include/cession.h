@@ -1,15 +1,17 @@
-// The public calls of the cession engine: reading and writing a treaty table, opening a year, running events.
+// The public calls of the cession engine: reading and writing a treaty table, reading a time scale, opening a year,
+// running events.
 //
-// The forms of a table, of an events text and of a statement, and every formula, are those of documents 01 and 02;
-// docs/GUIDE.md has an example of each. Amounts are whole cents. A share or a rate is in basis points (bp), 10,000 to
-// the whole. Every division is settled to the nearest cent, halves up, after the whole product has been formed; a time
-// share alone is rounded down.
+// The forms of a table, of a scale, of an events text and of a statement, and every formula, are those of documents 01
+// and 02; docs/GUIDE.md has an example of each. Amounts are whole cents. A share or a rate is in basis points (bp),
+// 10,000 to the whole. Every division is settled to the nearest cent, halves up, after the whole product has been
+// formed; a built-in time share alone is rounded down.
 //
-// What may be lent. No call asks anything of the values: every programme, standing, text and buffer is answered, with
-// a success or with a refusal. What a caller owes are the pointers:
-//   - a text or a buffer is valid for the length given with it; with length 0 the pointer may be anything, also NULL;
-//   - the standing is not NULL, is aligned as its type, and is valid for reading and writing;
-//   - buffer, events and standing do not overlap.
+// What may be lent. No call asks anything of the values: every programme, standing, scale, text and buffer is answered,
+// with a success or with a refusal. What a caller owes are the pointers:
+//   - a text, a scale or a buffer is valid for the length given with it, a scale's counted in shares; with length 0 the
+//     pointer may be anything, also NULL;
+//   - the standing is not NULL and is valid for reading and writing; standing and scale are aligned as their types;
+//   - buffer and standing overlap neither each other nor the events or the scale.
 //
 // Who owns what. The caller owns all of it. Programmes go in and come back by value. Nothing is kept after a call
 // returns, nothing is allocated, and there is nothing to free.
@@ -20,8 +22,8 @@
 // Threads. A call is a pure function of what is lent to it; the library keeps no state and shares none. Calls may run
 // at the same time as long as no thread writes to what another call has been lent.
 //
-// Stack. A run of up to 1,024 bytes of events takes about 26 kB of stack, one of up to 8,192 bytes about 39 kB and a
-// longer one about 145 kB; the other calls take less than 20 kB. These are measured figures: no theorem bounds the
+// Stack. A run of up to 1,024 bytes of events takes about 31 kB of stack, one of up to 8,192 bytes about 44 kB and a
+// longer one about 150 kB; the other calls take less than 20 kB. These are measured figures: no theorem bounds the
 // stack. A thread with 256 kB has enough for each call, one with 64 kB for runs of up to 1,024 bytes of events. A
 // stack needs a guard page below it, as the system gives its threads: without one an overrun goes unnoticed.
 //
@@ -41,6 +43,9 @@
 // The places for the rates of a layer: it has at most as many reinstatements.
 #define CESSION_RATES 20
 
+// The days of a time scale.
+#define CESSION_DAYS 366
+
 // The longest table text that is read, and the longest events text, in bytes.
 #define CESSION_TABLE_BYTES 8192
 #define CESSION_EVENTS_BYTES 65536
@@ -52,8 +57,9 @@
 // No refusal: the call was accepted.
 #define CESSION_ACCEPTED 0
 
-// Refusals. Reading a table gives 1 to 5, writing one 6 and 7, opening a year 6, a run 6 to 14. With each stands its
-// second number. The first line at fault from the top decides, and on one line the lowest number. Lines count from 1.
+// Refusals. Reading a table gives 1 to 5, writing one 6 and 7, opening a year 6, a run 6 to 14, reading a scale 28 to
+// 30. A run that is lent a scale gives 28 as well, after 6 and 8 and before 9. With each stands its second number. The
+// first line at fault from the top decides, and on one line the lowest number. Lines count from 1.
 
 // The table text is over 8,192 bytes. Second number: 0.
 #define CESSION_TABLE_TOO_LONG 1
@@ -88,6 +94,15 @@
 #define CESSION_DAY_GOES_BACK 13
 // A loss names a treaty that the programme lacks. Second number: the line.
 #define CESSION_NO_SUCH_TREATY 14
+// A line of a scale is not the form (day D S), has no line feed, or has another day than its place; or there are fewer
+// lines than 366 or more. Second number: the line, 367 for what follows the last day, 0 for too few lines. Of a run: no
+// text reads to the scale that was lent, for it has fewer or more than 366 shares, one above 10,000, or one above that
+// of the day before. Second number: 0.
+#define CESSION_NOT_A_SCALE 28
+// A share of a scale is outside its range. Second number: the line.
+#define CESSION_SHARE_OUT_OF_RANGE 29
+// A share of a scale is above that of the day before. Second number: the line.
+#define CESSION_SHARE_RISES 30
 
 #ifdef __cplusplus
 extern "C" {
@@ -115,8 +130,8 @@ typedef struct cession_terms {
     uint64_t rates[CESSION_RATES]; // each reinstatement's rate, bp, 0 to 20,000, in the order of their use; 0 past the
                                    // last reinstatement
     uint64_t time; // 0 where premium is by amount alone, 1 where it is by amount and time, (time) in the table: each
-                   // loss's amount premium times its day's time share, 10,000 * (366 - day) / 365 rounded down, over
-                   // 10,000, to the nearest cent
+                   // loss's amount premium times its day's time share over 10,000, to the nearest cent. The share is
+                   // that of the scale lent to the run, or without one 10,000 * (366 - day) / 365 rounded down
 } cession_terms;
 
 // Treaties in the first places; every number of the places from count on is 0.
@@ -150,6 +165,11 @@ typedef struct cession_standing {
     uint64_t cat_timed[CESSION_PLACES];  // the premium charged this year for each cat layer with time 1, likewise
 } cession_standing;
 
+// A client's own time scale: what of its amount premium a loss is charged, by its day.
+typedef struct cession_scale {
+    uint64_t shares[CESSION_DAYS]; // of the days 1 to 366, bp, 0 to 10,000, none above the one before
+} cession_scale;
+
 // What writing and running answer.
 typedef struct cession_answer {
     uint64_t refusal; // CESSION_ACCEPTED, or the refusal
@@ -162,6 +182,13 @@ typedef struct cession_reading {
     uint64_t line;               // accepted: 0; refused: the line at fault, 0 with CESSION_TABLE_TOO_LONG
     cession_programme programme; // refused: the programme without contracts, every number 0
 } cession_reading;
+
+// What reading a scale answers.
+typedef struct cession_scale_reading {
+    uint64_t refusal;    // CESSION_ACCEPTED, or the refusal
+    uint64_t line;       // accepted: 0; refused: the line at fault, 0 for too few lines
+    cession_scale scale; // refused: every share 0
+} cession_scale_reading;
 
 // What opening a year answers.
 typedef struct cession_opening {
@@ -177,14 +204,24 @@ cession_reading cession_read(const uint8_t *text, size_t length);
 // Writes a programme's table text into the buffer. CESSION_TABLE_BYTES are enough for every programme.
 cession_answer cession_write(cession_programme programme, uint8_t *buffer, size_t length);
 
+// Reads a scale text: 366 lines (day D S), D from 1 to 366 in order, S the day's share. The text may have any length;
+// what follows its 366th line is not looked at.
+cession_scale_reading cession_read_scale(const uint8_t *text, size_t length);
+
 // Opens a year under a programme.
 cession_opening cession_open(cession_programme programme);
 
 // Runs an events text under a programme and writes the run's statement into the buffer. The standing lent is the year
 // before the run; an accepted run leaves the year after it there. A run refused with CESSION_BUFFER_TOO_SHORT can be
-// made again with a buffer of the length told.
+// made again with a buffer of the length told. Premium by time is charged at the built-in shares.
 cession_answer cession_run(cession_programme programme, cession_standing *standing, const uint8_t *events,
                            size_t events_length, uint8_t *buffer, size_t length);
+
+// The same with premium by time charged at the shares of a scale. It is lent as so many shares, CESSION_DAYS of them in
+// a cession_scale. All runs of a year are lent one scale: the standing does not say which.
+cession_answer cession_run_scaled(cession_programme programme, cession_standing *standing, const uint64_t *scale,
+                                  size_t scale_length, const uint8_t *events, size_t events_length, uint8_t *buffer,
+                                  size_t length);
 
 #ifdef __cplusplus
 }

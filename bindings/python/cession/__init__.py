@@ -1,9 +1,10 @@
-"""The cession engine for Python: reads and writes treaty tables, opens a year and runs events through it.
+"""The cession engine for Python: reads and writes treaty tables, reads time scales, opens a year and runs events
+through it.
 
-A `Programme` has the contracts of a treaty table, a `Standing` the year so far. A run takes an events text and gives
-the statement and the standing after it; a call that is turned down raises `Refused` and changes nothing. Amounts are
-whole cents; shares and rates are basis points, 10,000 to the whole. Every division is settled to the nearest cent,
-halves up.
+A `Programme` has the contracts of a treaty table, a `Standing` the year so far, a `Scale` a client's own time shares. A
+run takes an events text and gives the statement and the standing after it; a call that is turned down raises `Refused`
+and changes nothing. Amounts are whole cents; shares and rates are basis points, 10,000 to the whole. Every division is
+settled to the nearest cent, halves up.
 
 >>> import cession
 >>> table = b"(cat (band 100000000 150000000) (deduct 0) (back 1 75000000 5000) (placed 8000))\\n"
@@ -30,6 +31,13 @@ By amount and time: on day 147 three fifths of the year are left, and of the pre
 >>> cession.run(timed, cession.open_year(timed), events)[1].cat_timed[0]
 18000000
 
+By a scale of the client's own: nine tenths of the premium on every day up to 180, then nothing.
+
+>>> lines = [b"(day %d %d)\\n" % (day, 9000 if day <= 180 else 0) for day in range(1, 367)]
+>>> scale = cession.read_scale(b"".join(lines))
+>>> cession.run_scaled(timed, cession.open_year(timed), scale, events)[1].cat_timed[0]
+27000000
+
 Half of 101 is 50.5:
 
 >>> half = cession.read(b"(quota 1 (cede 5000) (capacity 0) (event 0))\\n")
@@ -46,19 +54,32 @@ A call that is turned down:
 
 The shared object is the file that the environment's CESSION_LIBRARY names, else libcession.so beside this module, else
 what the system's loader finds under that name. The calls are pure functions of what is lent to them and may run in any
-number of threads at once; a run takes about 26 kB of stack for up to 1,024 bytes of events and about 145 kB for the
+number of threads at once; a run takes about 31 kB of stack for up to 1,024 bytes of events and about 150 kB for the
 longest text, so that a thread of 256 kB has enough.
 """
 
-from .calls import EVENTS_BYTES, TABLE_BYTES, open_year, read, run, run_into, write, write_into
-from .contracts import QUOTA_SHARE, SURPLUS, Programme, Standing, Terms, Treaty
-from .raw import PLACES, RATES
+from .calls import (
+    EVENTS_BYTES,
+    TABLE_BYTES,
+    open_year,
+    read,
+    read_scale,
+    run,
+    run_into,
+    run_scaled,
+    run_scaled_into,
+    write,
+    write_into,
+)
+from .contracts import QUOTA_SHARE, SURPLUS, Programme, Scale, Standing, Terms, Treaty
+from .raw import DAYS, PLACES, RATES
 from .refusals import (
     BufferTooShort,
     EventsRefused,
     ProgrammeRefused,
     Refusal,
     Refused,
+    ScaleRefused,
     StandingRefused,
     TableRefused,
     refused,
@@ -66,6 +87,7 @@ from .refusals import (
 
 __all__ = [
     "BufferTooShort",
+    "DAYS",
     "EVENTS_BYTES",
     "EventsRefused",
     "PLACES",
@@ -76,6 +98,8 @@ __all__ = [
     "Refusal",
     "Refused",
     "SURPLUS",
+    "Scale",
+    "ScaleRefused",
     "Standing",
     "StandingRefused",
     "TABLE_BYTES",
@@ -84,9 +108,12 @@ __all__ = [
     "Treaty",
     "open_year",
     "read",
+    "read_scale",
     "refused",
     "run",
     "run_into",
+    "run_scaled",
+    "run_scaled_into",
     "write",
     "write_into",
 ]

@@ -4,7 +4,7 @@ import ctypes
 from typing import Callable, Tuple
 
 from . import raw
-from .contracts import Programme, Standing
+from .contracts import Programme, Scale, Standing
 from .refusals import BufferTooShort, refused
 
 TABLE_BYTES = 8192
@@ -34,6 +34,12 @@ def _room(buffer):
 def _lent(programme: Programme) -> raw.Programme:
     """The programme as the library takes it."""
     return _given("programme", programme, Programme, "a Programme")._lent
+
+
+def _shares(scale: Scale):
+    """The scale as the library takes it, and the number of its shares."""
+    lent = _given("scale", scale, Scale, "a Scale")._lent
+    return lent, len(lent)
 
 
 def _apart(room, length: int, standing: raw.Standing):
@@ -101,6 +107,22 @@ def write_into(programme: Programme, buffer: bytearray) -> int:
     return _accepted(answer.refusal, answer.number)
 
 
+def read_scale(text: bytes) -> Scale:
+    """Reads a scale text: 366 lines `(day D S)`, D from 1 to 366 in order, S from 0 to 10,000 and never rising.
+
+    >>> steps = [(day, 10000 if day <= 90 else 2500) for day in range(1, 367)]
+    >>> scale = read_scale(b"".join(b"(day %d %d)\\n" % step for step in steps))
+    >>> scale.shares[89:91]
+    (10000, 2500)
+    >>> read_scale(b"(day 1 9000)\\n(day 2 9001)\\n")
+    Traceback (most recent call last):
+    cession.refusals.ScaleRefused: line 2 of the scale has a share above that of the day before
+    """
+    reading = raw.library().cession_read_scale(_given("text", text, bytes, "bytes"), len(text))
+    _accepted(reading.refusal, reading.line)
+    return Scale.from_raw(reading.scale)
+
+
 def open_year(programme: Programme) -> Standing:
     """Opens a year: nothing spent, no day run.
 
@@ -110,6 +132,16 @@ def open_year(programme: Programme) -> Standing:
     opening = raw.library().cession_open(_lent(programme))
     _accepted(opening.refusal, opening.number)
     return Standing.from_raw(opening.standing)
+
+
+def _run(call: str, programme: Programme, standing: raw.Standing, scale: tuple, events: bytes, buffer) -> int:
+    """The length of the statement that a call for runs writes; a scale and its length go before the events."""
+    _given("standing", standing, raw.Standing, "what Standing.to_raw gives")
+    _given("events", events, bytes, "bytes")
+    room, length = _room(buffer)
+    _apart(room, length, standing)
+    answer = getattr(raw.library(), call)(_lent(programme), standing, *scale, events, len(events), room, length)
+    return _accepted(answer.refusal, answer.number)
 
 
 def run(programme: Programme, standing: Standing, events: bytes) -> Tuple[bytes, Standing]:
@@ -146,9 +178,38 @@ def run_into(programme: Programme, standing: raw.Standing, events: bytes, buffer
     >>> lent.day
     9
     """
-    _given("standing", standing, raw.Standing, "what Standing.to_raw gives")
-    _given("events", events, bytes, "bytes")
-    room, length = _room(buffer)
-    _apart(room, length, standing)
-    answer = raw.library().cession_run(_lent(programme), standing, events, len(events), room, length)
-    return _accepted(answer.refusal, answer.number)
+    return _run("cession_run", programme, standing, (), events, buffer)
+
+
+def run_scaled(programme: Programme, standing: Standing, scale: Scale, events: bytes) -> Tuple[bytes, Standing]:
+    """Runs as `run` does, with premium by time charged at the shares of a scale. All runs of a year are lent one scale:
+    the standing does not say which. Half of the limit costs half of 365,000; 182,500 x 6,667 / 10,000 is 121,672.75.
+
+    >>> table = b"(cat (band 0 1000000) (deduct 0) (back 1 365000 10000) (placed 10000) (time))\\n"
+    >>> programme, events = read(table), b"(event 184 (loss 0 500000 500000))\\n"
+    >>> statement, standing = run_scaled(programme, open_year(programme), Scale([6667] * 366), events)
+    >>> standing.cat_timed[0]
+    121673
+    >>> from cession import ScaleRefused
+    >>> try:
+    ...     run_scaled(programme, standing, Scale([6667] * 365), b"")
+    ... except ScaleRefused as refused:
+    ...     refused.number, refused.second
+    (28, 0)
+    """
+    lent = _given("standing", standing, Standing, "a Standing").to_raw()
+    statement = _owned(EVENTS_BYTES, lambda buffer: run_scaled_into(programme, lent, scale, events, buffer))
+    return statement, Standing.from_raw(lent)
+
+
+def run_scaled_into(
+    programme: Programme, standing: raw.Standing, scale: Scale, events: bytes, buffer: bytearray
+) -> int:
+    """Runs as `run_into` does, with premium by time charged at the shares of a scale.
+
+    >>> programme, buffer = Programme(), bytearray(200)
+    >>> lent = open_year(programme).to_raw()
+    >>> run_scaled_into(programme, lent, Scale([10000] * 366), b"(event 9)\\n", buffer), lent.day
+    (132, 9)
+    """
+    return _run("cession_run_scaled", programme, standing, _shares(scale), events, buffer)

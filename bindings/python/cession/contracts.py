@@ -1,9 +1,10 @@
-"""The contracts of a table and the year so far, as values that do not change.
+"""The contracts of a table, a time scale and the year so far, as values that do not change.
 
 Amounts are whole cents; shares and rates are basis points, 10,000 to the whole. Any numbers of 64 bits may be put in:
 the calls refuse what no table states.
 """
 
+import ctypes
 import functools
 from dataclasses import dataclass
 from typing import Tuple
@@ -87,8 +88,9 @@ class Terms:
     """The terms of an excess layer. The deductible is yearly; reinstatements are a number, and each has its rate of
     the premium, which is that for 100% of the layer. Rates stand in 20 places, in the order in which the
     reinstatements are used; those that are left out are 0. `time` is 0 where premium is by amount alone and 1 where it
-    is by amount and time, `(time)` in the table: each loss's amount premium times its day's time share, 10,000 x
-    (366 - day) / 365 rounded down, over 10,000, to the nearest cent.
+    is by amount and time, `(time)` in the table: each loss's amount premium times its day's time share over 10,000, to
+    the nearest cent. The share is that of the `Scale` lent to the run, or without one 10,000 x (366 - day) / 365
+    rounded down.
 
     >>> Terms(attachment=50, limit=100, placed=9000).deductible
     0
@@ -156,6 +158,46 @@ class Programme:
         if bytes(programme._lent) != bytes(numbers):
             raise ValueError("a count is above 8, or an unused place is not 0")
         return programme
+
+
+@dataclass(frozen=True)
+class Scale:
+    """A client's own time scale: the shares of the days 1 to 366, in basis points, of its amount premium that a loss
+    on a layer with `(time)` is charged. Any shares may be lent, also fewer or more: those that no text reads to are
+    refused by the run.
+
+    >>> Scale([7201] * 366).shares[365]
+    7201
+    """
+
+    shares: Tuple[int, ...]
+
+    def __post_init__(self):
+        object.__setattr__(self, "shares", tuple(self.shares))
+
+    def to_raw(self) -> "ctypes.Array[ctypes.c_uint64]":
+        """The shares as the library takes them. Numbers that 64 bits do not hold are an error.
+
+        >>> len(Scale([3333] * 365).to_raw())
+        365
+        >>> Scale([10000, -1]).to_raw()
+        Traceback (most recent call last):
+        ValueError: shares[1] is -1 and must be from 0 to 2**64 - 1
+        """
+        shares = _numbers("shares", self.shares, len(self.shares))
+        return (ctypes.c_uint64 * len(shares))(*shares)
+
+    # What the runs of a year lend; it is made once, since neither the scale nor a run changes it.
+    _lent = functools.cached_property(to_raw)
+
+    @classmethod
+    def from_raw(cls, numbers: raw.Scale) -> "Scale":
+        """The scale with these shares.
+
+        >>> Scale.from_raw(raw.Scale()).shares == (0,) * 366
+        True
+        """
+        return cls(numbers.shares)
 
 
 # What a standing has of each layer.

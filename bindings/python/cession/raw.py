@@ -16,6 +16,7 @@ from ctypes import POINTER, Structure, c_char_p, c_size_t, c_uint64, c_void_p
 
 PLACES = 8
 RATES = 20
+DAYS = 366
 
 
 class Treaty(Structure):
@@ -79,6 +80,12 @@ class Standing(Structure):
     ]
 
 
+class Scale(Structure):
+    """A client's own time scale: the shares of the days 1 to 366."""
+
+    _fields_ = [("shares", c_uint64 * DAYS)]
+
+
 class Answer(Structure):
     """What writing and running answer."""
 
@@ -89,6 +96,12 @@ class Reading(Structure):
     """What reading a table answers."""
 
     _fields_ = [("refusal", c_uint64), ("line", c_uint64), ("programme", Programme)]
+
+
+class ScaleReading(Structure):
+    """What reading a scale answers."""
+
+    _fields_ = [("refusal", c_uint64), ("line", c_uint64), ("scale", Scale)]
 
 
 class Opening(Structure):
@@ -114,11 +127,15 @@ def library() -> ctypes.CDLL:
         found = ctypes.CDLL(path)
     except OSError as error:
         raise OSError(f"cannot load the cession library: {error}; CESSION_LIBRARY may name its file") from error
+    year, scale = [Programme, POINTER(Standing)], [POINTER(c_uint64), c_size_t]
+    text, room = [c_char_p, c_size_t], [c_void_p, c_size_t]
     calls = {
-        "cession_read": (Reading, [c_char_p, c_size_t]),
-        "cession_write": (Answer, [Programme, c_void_p, c_size_t]),
+        "cession_read": (Reading, text),
+        "cession_write": (Answer, [Programme, *room]),
+        "cession_read_scale": (ScaleReading, text),
         "cession_open": (Opening, [Programme]),
-        "cession_run": (Answer, [Programme, POINTER(Standing), c_char_p, c_size_t, c_void_p, c_size_t]),
+        "cession_run": (Answer, [*year, *text, *room]),
+        "cession_run_scaled": (Answer, [*year, *scale, *text, *room]),
     }
     for name, (result, arguments) in calls.items():
         call = getattr(found, name, None)

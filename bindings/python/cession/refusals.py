@@ -5,7 +5,7 @@ from typing import Optional
 
 
 class Refusal(enum.IntEnum):
-    """Document 01's numbers by name; include/cession.h says what each of them means.
+    """The numbers of documents 01 and 02 by name; include/cession.h says what each of them means.
 
     >>> Refusal.DAY_GOES_BACK == 13
     True
@@ -25,10 +25,14 @@ class Refusal(enum.IntEnum):
     TOO_MANY_LOSSES = 12
     DAY_GOES_BACK = 13
     NO_SUCH_TREATY = 14
+    NOT_A_SCALE = 28
+    SHARE_OUT_OF_RANGE = 29
+    SHARE_RISES = 30
 
 
 _TABLE = "line {second} of the treaty table "
 _EVENTS = "line {second} of the events "
+_SCALE = "line {second} of the scale "
 
 _SENTENCES = {
     Refusal.TABLE_TOO_LONG: "the treaty table is longer than 8,192 bytes",
@@ -48,7 +52,17 @@ _SENTENCES = {
     Refusal.TOO_MANY_LOSSES: _EVENTS + "has more than 64 losses",
     Refusal.DAY_GOES_BACK: _EVENTS + "has a day before that of the event before it",
     Refusal.NO_SUCH_TREATY: _EVENTS + "has a loss under a treaty that the treaty table does not have",
+    Refusal.NOT_A_SCALE: _SCALE + "is not that of a day: a scale has a line (day D S) for each of the days 1 to 366, "
+    "in order",
+    Refusal.SHARE_OUT_OF_RANGE: _SCALE + "has a share above 10,000",
+    Refusal.SHARE_RISES: _SCALE + "has a share above that of the day before",
 }
+
+# Of a scale that no single line is at fault with.
+_SHARES = (
+    "the shares are not those of a scale: one for each of 366 days, from 0 to 10,000 and none above that of the day "
+    "before"
+)
 
 _UNNAMED = "the library refused with {number} and {second}, which this version does not know"
 
@@ -57,9 +71,9 @@ class Refused(Exception):
     """A call was turned down; nothing that was lent to it has changed. Its text is a sentence for the person whose
     table, events or call it is about.
 
-    `number` is document 01's number, which equals its name in `Refusal`; `second` is the line at fault, the length
-    needed, or 0. What was turned down is the class: `TableRefused`, `ProgrammeRefused`, `BufferTooShort`,
-    `StandingRefused` or `EventsRefused`.
+    `number` is the number of document 01 or 02, which equals its name in `Refusal`; `second` is the line at fault, the
+    length needed, or 0. What was turned down is the class: `TableRefused`, `ProgrammeRefused`, `BufferTooShort`,
+    `StandingRefused`, `EventsRefused` or `ScaleRefused`.
 
     >>> error = refused(13, 2)
     >>> type(error).__name__, error.number, error.second, error.line
@@ -139,12 +153,27 @@ class EventsRefused(Refused):
     """
 
 
+class ScaleRefused(Refused):
+    """A scale was turned down, a text or the shares lent to a run.
+
+    >>> refused(28, 367)
+    ScaleRefused(28, 367)
+    >>> print(refused(29, 4))
+    line 4 of the scale has a share above 10,000
+    """
+
+    def __str__(self) -> str:
+        is_of_no_line = self.number == Refusal.NOT_A_SCALE and not self.second
+        return _SHARES if is_of_no_line else super().__str__()
+
+
 _KINDS = {
     **dict.fromkeys(range(Refusal.TABLE_TOO_LONG, Refusal.NOT_A_PROGRAMME), TableRefused),
     Refusal.NOT_A_PROGRAMME: ProgrammeRefused,
     Refusal.BUFFER_TOO_SHORT: BufferTooShort,
     Refusal.NOT_A_STANDING: StandingRefused,
     **dict.fromkeys(range(Refusal.EVENTS_TOO_LONG, Refusal.NO_SUCH_TREATY + 1), EventsRefused),
+    **dict.fromkeys(range(Refusal.NOT_A_SCALE, Refusal.SHARE_RISES + 1), ScaleRefused),
 }
 
 

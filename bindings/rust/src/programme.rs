@@ -1,6 +1,6 @@
 //! The contracts of a table, and the calls that take them.
 
-use crate::{raw, Refusal, Standing, Terms, Treaty, EVENTS_BYTES, TABLE_BYTES};
+use crate::{raw, Refusal, Scale, Standing, Terms, Treaty, EVENTS_BYTES, TABLE_BYTES};
 
 /// The contracts of a treaty table: proportional treaties, risk layers and catastrophe layers.
 ///
@@ -142,6 +142,57 @@ impl Programme {
         accepted(answer.refusal, answer.number)
     }
 
+    /// Runs as [`Programme::run`] does, with premium by time charged at the shares of a scale. All runs of a year are
+    /// lent one scale: the standing does not say which.
+    ///
+    /// ```
+    /// use cession::{Programme, Refusal, Scale};
+    ///
+    /// let table = b"(cat (band 0 1000000) (deduct 0) (back 1 365000 10000) (placed 10000) (time))\n";
+    /// let programme = Programme::read(table)?;
+    /// let mut standing = programme.open()?;
+    /// // Half of the limit costs half of 365,000; 182,500 x 6,667 / 10,000 is 121,672.75.
+    /// let events = b"(event 184 (loss 0 500000 500000))\n";
+    /// let statement = programme.run_scaled(&mut standing, &Scale::from([6_667; cession::DAYS]), events)?;
+    /// assert!(statement.starts_with(b"(event 184 (gross 500000) (ceded 0) (risk 0) (cat 500000) (net 0) \
+    ///     (premium 121673))\n"));
+    /// # Ok::<(), Refusal>(())
+    /// ```
+    pub fn run_scaled(&self, standing: &mut Standing, scale: &Scale, events: &[u8]) -> Result<Vec<u8>, Refusal> {
+        owned(EVENTS_BYTES, |buffer| self.run_scaled_into(standing, scale, events, buffer))
+    }
+
+    /// Runs as [`Programme::run_into`] does, with premium by time charged at the shares of a scale.
+    ///
+    /// ```
+    /// use cession::{Programme, Refusal, Scale};
+    ///
+    /// let (programme, scale) = (Programme::default(), Scale::from([10_000; cession::DAYS]));
+    /// let mut standing = programme.open()?;
+    /// let mut buffer = [0; 200];
+    /// let length = programme.run_scaled_into(&mut standing, &scale, b"(event 9)\n", &mut buffer)?;
+    /// assert_eq!((standing.day(), length), (9, 132));
+    ///
+    /// let above = Scale::from([10_001; cession::DAYS]);
+    /// let refused = programme.run_scaled_into(&mut standing, &above, b"(event 10)\n", &mut buffer);
+    /// assert_eq!((refused, standing.day()), (Err(Refusal::NotAScale { line: 0 }), 9));
+    /// # Ok::<(), Refusal>(())
+    /// ```
+    pub fn run_scaled_into(
+        &self,
+        standing: &mut Standing,
+        scale: &Scale,
+        events: &[u8],
+        buffer: &mut [u8],
+    ) -> Result<usize, Refusal> {
+        let (shares, text, room) = (scale.0.shares.as_ptr(), events.as_ptr(), buffer.as_mut_ptr());
+        let (days, length, size) = (scale.0.shares.len(), events.len(), buffer.len());
+        // Each is valid for its length, and what is lent to be changed overlaps with nothing.
+        let answer =
+            unsafe { raw::cession_run_scaled(self.0, &mut standing.0, shares, days, text, length, room, size) };
+        accepted(answer.refusal, answer.number)
+    }
+
     /// The treaties in use, in the table's order; all places of a broken programme with a count above 8.
     ///
     /// ```
@@ -203,7 +254,7 @@ fn in_use<T>(places: &[T], count: usize) -> &[T] {
 }
 
 /// The number of an accepted call, or the refusal.
-fn accepted(refusal: u64, number: u64) -> Result<usize, Refusal> {
+pub(crate) fn accepted(refusal: u64, number: u64) -> Result<usize, Refusal> {
     match refusal {
         0 => Ok(number as usize),
         _ => Err(Refusal::from_numbers(refusal, number)),

@@ -63,7 +63,8 @@ pub struct Terms {
     /// reinstatement are 0.
     pub rates: [u64; 20],
     /// 0 where premium is by amount alone, 1 where it is by amount and time: each loss's amount premium times its
-    /// day's time share, 10,000 × (366 − day) / 365 rounded down, over 10,000, to the nearest cent.
+    /// day's time share over 10,000, to the nearest cent. The share is that of the scale lent to the run, or without
+    /// one 10,000 × (366 − day) / 365 rounded down.
     pub time: u64,
 }
 
@@ -116,6 +117,21 @@ pub struct Standing {
     pub cat_timed: [u64; 8],
 }
 
+/// A client's own time scale.
+#[repr(C)]
+#[derive(Clone, Copy, PartialEq, Eq, Debug)]
+pub struct Scale {
+    /// The shares of the days 1 to 366, bp, 0 to 10,000, none above the one before.
+    pub shares: [u64; 366],
+}
+
+/// Every share is 0.
+impl Default for Scale {
+    fn default() -> Self {
+        Scale { shares: [0; 366] }
+    }
+}
+
 /// What writing and running answer.
 #[repr(C)]
 #[derive(Clone, Copy, Default, PartialEq, Eq, Debug)]
@@ -136,6 +152,18 @@ pub struct Reading {
     pub line: u64,
     /// The programme without contracts where the call is refused.
     pub programme: Programme,
+}
+
+/// What reading a scale answers.
+#[repr(C)]
+#[derive(Clone, Copy, Default, PartialEq, Eq, Debug)]
+pub struct ScaleReading {
+    /// 0, or the refusal.
+    pub refusal: u64,
+    /// The line at fault; 0 where the call is accepted or there are too few lines.
+    pub line: u64,
+    /// Every share 0 where the call is refused.
+    pub scale: Scale,
 }
 
 /// What opening a year answers.
@@ -162,6 +190,11 @@ extern "C" {
     /// # Safety
     /// The buffer is valid for its length.
     pub fn cession_write(programme: Programme, buffer: *mut u8, length: usize) -> Answer;
+    /// Reads a scale text.
+    ///
+    /// # Safety
+    /// The text is valid for its length.
+    pub fn cession_read_scale(text: *const u8, length: usize) -> ScaleReading;
     /// Opens a year under a programme.
     ///
     /// # Safety
@@ -174,6 +207,21 @@ extern "C" {
     pub fn cession_run(
         programme: Programme,
         standing: *mut Standing,
+        events: *const u8,
+        events_length: usize,
+        buffer: *mut u8,
+        length: usize,
+    ) -> Answer;
+    /// The same with premium by time charged at the shares of a scale, which is lent as so many shares.
+    ///
+    /// # Safety
+    /// Scale, events and buffer are valid for their lengths, the standing for reading and writing; buffer and standing
+    /// overlap neither each other nor the others.
+    pub fn cession_run_scaled(
+        programme: Programme,
+        standing: *mut Standing,
+        scale: *const u64,
+        scale_length: usize,
         events: *const u8,
         events_length: usize,
         buffer: *mut u8,

@@ -3,7 +3,7 @@
 use std::error::Error;
 use std::fmt;
 
-/// Why a call was turned down, by document 01's numbers 1 to 14. Lines count from 1.
+/// Why a call was turned down, by document 01's numbers 1 to 14 and document 02's 28 to 30. Lines count from 1.
 ///
 /// Its sentence is meant for the person whose text or call it is about:
 ///
@@ -49,6 +49,13 @@ pub enum Refusal {
     DayGoesBack { line: u64 },
     /// 14: a loss names a treaty that the programme lacks.
     NoSuchTreaty { line: u64 },
+    /// 28: the line of a scale is not the form `(day D S)` of its day, has no line feed, or is past day 366; line 0
+    /// where the lines are too few, or where no text reads to the scale that a run was lent.
+    NotAScale { line: u64 },
+    /// 29: the share of the line is above 10,000.
+    ShareOutOfRange { line: u64 },
+    /// 30: the share of the line is above that of the day before.
+    ShareRises { line: u64 },
     /// A number that this crate has no name for, from a library that is newer than it. The call changed nothing.
     Other { number: u64, second: u64 },
 }
@@ -79,11 +86,14 @@ impl Refusal {
             12 => Refusal::TooManyLosses { line },
             13 => Refusal::DayGoesBack { line },
             14 => Refusal::NoSuchTreaty { line },
+            28 => Refusal::NotAScale { line },
+            29 => Refusal::ShareOutOfRange { line },
+            30 => Refusal::ShareRises { line },
             _ => Refusal::Other { number, second },
         }
     }
 
-    /// Document 01's number.
+    /// The number, as documents 01 and 02 have it.
     ///
     /// ```
     /// assert_eq!(cession::Refusal::NotAProgramme.number(), 6);
@@ -104,6 +114,9 @@ impl Refusal {
             Refusal::TooManyLosses { .. } => 12,
             Refusal::DayGoesBack { .. } => 13,
             Refusal::NoSuchTreaty { .. } => 14,
+            Refusal::NotAScale { .. } => 28,
+            Refusal::ShareOutOfRange { .. } => 29,
+            Refusal::ShareRises { .. } => 30,
             Refusal::Other { number, .. } => number,
         }
     }
@@ -128,7 +141,10 @@ impl Refusal {
             | Refusal::EventNumberOutOfRange { line }
             | Refusal::TooManyLosses { line }
             | Refusal::DayGoesBack { line }
-            | Refusal::NoSuchTreaty { line } => line,
+            | Refusal::NoSuchTreaty { line }
+            | Refusal::NotAScale { line }
+            | Refusal::ShareOutOfRange { line }
+            | Refusal::ShareRises { line } => line,
             Refusal::BufferTooShort { needed } => needed as u64,
             Refusal::Other { second, .. } => second,
         }
@@ -136,6 +152,8 @@ impl Refusal {
 }
 
 const TABLE_ORDER: &str = "treaties with rising numbers come first, then up to 8 risk layers, then up to 8 cat layers";
+const SCALE_RULE: &str = "a scale has a line (day D S) for each of the days 1 to 366, in order";
+const SHARES_RULE: &str = "one for each of 366 days, from 0 to 10,000 and none above that of the day before";
 const STANDING_RULE: &str = "a spent amount is above its layer's cap or belongs to no layer, a timed premium is above \
     its layer's amount premium or belongs to no layer with (time), or the day is after 366";
 
@@ -143,6 +161,7 @@ impl fmt::Display for Refusal {
     fn fmt(&self, f: &mut fmt::Formatter<'_>) -> fmt::Result {
         let of_table = |line| format!("line {line} of the treaty table");
         let of_events = |line| format!("line {line} of the events");
+        let of_scale = |line| format!("line {line} of the scale");
         match *self {
             Refusal::TableTooLong => write!(f, "the treaty table is longer than 8,192 bytes"),
             Refusal::NotATableForm { line } => {
@@ -165,6 +184,12 @@ impl fmt::Display for Refusal {
             }
             Refusal::NoSuchTreaty { line } => {
                 write!(f, "{} has a loss under a treaty that the treaty table does not have", of_events(line))
+            }
+            Refusal::NotAScale { line: 0 } => write!(f, "the shares are not those of a scale: {SHARES_RULE}"),
+            Refusal::NotAScale { line } => write!(f, "{} is not that of a day: {SCALE_RULE}", of_scale(line)),
+            Refusal::ShareOutOfRange { line } => write!(f, "{} has a share above 10,000", of_scale(line)),
+            Refusal::ShareRises { line } => {
+                write!(f, "{} has a share above that of the day before", of_scale(line))
             }
             Refusal::Other { number, second } => {
                 write!(f, "the library refused with {number} and {second}, which this version does not know")
