@@ -2,7 +2,7 @@
 
 // Refusal 0 and the length of the text written, or a refusal and its second number.
 #[repr(C)]
-#[derive(Drop)]
+#[derive(Clone, Copy)]
 pub struct Answer {
     pub refusal: u64,
     pub number: u64,

@@ -14,7 +14,7 @@ use statement::lines;
 use year::Amounts;
 
 // After all events: their amounts, added, the last day and the place after their lines.
-#[derive(Drop)]
+#[derive(Clone, Copy)]
 pub struct Booked {
     pub total: Amounts,
     pub day: u64,

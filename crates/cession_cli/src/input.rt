@@ -2,7 +2,7 @@
 ghost use Rattle.io.specs.Counts.{IsPrefixLen};
 
 // What reading came to: whether a read failed, and how many bytes were read before that or before the end.
-#[derive(Drop)]
+#[derive(Clone, Copy)]
 pub struct Filled {
     pub failed: bool,
     pub size: usize,

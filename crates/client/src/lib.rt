@@ -20,7 +20,7 @@ use table_text::Reading;
 use year::{Opening, Standing};
 
 // What a run answers, and the standing that it leaves.
-#[derive(Drop)]
+#[derive(Clone, Copy)]
 pub struct After {
     pub answer: Answer,
     pub standing: Standing,

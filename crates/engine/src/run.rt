@@ -30,14 +30,14 @@ const MEDIUM: usize = 8192;
 const LOSS_BYTES: usize = 13;
 
 // What a run gives back: its answer, and the standing after it, which is the one lent where it is refused.
-#[derive(Drop)]
+#[derive(Clone, Copy)]
 pub struct Ran {
     pub answer: Answer,
     pub standing: Standing,
 }
 
 // How many bytes a statement has, and the standing after it.
-#[derive(Drop)]
+#[derive(Clone, Copy)]
 pub struct Stated {
     pub length: usize,
     pub standing: Standing,

@@ -15,14 +15,14 @@ const EVENT: u64 = 0x20746e65766528;
 const LOSS: u64 = 0x2073736f6c2820;
 
 // How a line begins: with an event's day, and the place after it, or not as an event form does.
-#[derive(Drop)]
+#[derive(Clone, Copy)]
 pub enum Head {
     Day(u64, usize),
     NoEvent,
 }
 
 // What stands at a place of a line: a loss, and the place after its form, or no loss form.
-#[derive(Drop)]
+#[derive(Clone, Copy)]
 pub enum LossForm {
     Loss(Loss, usize),
     NoLoss,

@@ -11,7 +11,7 @@ use crate::terms::Terms;
 
 // Terms with the spent amount, the year's losses, cut off at the cap, and with the year's timed premium, which is 0
 // where premium is not by time.
-#[derive(Drop)]
+#[derive(Clone, Copy)]
 pub struct Layer {
     pub terms: Terms,
     pub spent: Whole,
@@ -19,7 +19,7 @@ pub struct Layer {
 }
 
 // The time share of a day, and recoveries and premiums of that day, added over layers.
-#[derive(Drop)]
+#[derive(Clone, Copy)]
 pub struct Sums {
     pub share: u64,
     pub recovered: Placed,
@@ -27,7 +27,7 @@ pub struct Sums {
 }
 
 // The record after losses, and the sums with their recoveries and premiums.
-#[derive(Drop)]
+#[derive(Clone, Copy)]
 pub struct Borne {
     pub layer: Layer,
     pub sums: Sums,

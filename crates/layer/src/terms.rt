@@ -14,7 +14,7 @@ pub const RATES: usize = 20;
 // first rates, as many as reinstatements, are used; every other is 0. `time` is 1 where premium is by amount and time,
 // and 0 elsewhere.
 #[repr(C)]
-#[derive(Drop)]
+#[derive(Clone, Copy)]
 pub struct Terms {
     pub attachment: u64,
     pub limit: u64,

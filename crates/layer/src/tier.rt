@@ -10,14 +10,14 @@ use crate::record::{Layer, Sums};
 pub const PLACES: usize = 8;
 
 // The layers of a tier, in the first places; the places past the count are unused.
-#[derive(Drop)]
+#[derive(Clone, Copy)]
 pub struct Tier {
     pub layers: [Layer; PLACES],
     pub count: usize,
 }
 
 // The tier after subject amounts, and its layers' recoveries and premiums, added.
-#[derive(Drop)]
+#[derive(Clone, Copy)]
 pub struct TierBorne {
     pub tier: Tier,
     pub sums: Sums,

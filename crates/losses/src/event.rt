@@ -10,7 +10,7 @@ use crate::treaties::NUMBERS;
 use crate::{kept, treaties};
 
 // What an event's losses come to under the treaties: their amounts and what is ceded of them, added.
-#[derive(Drop)]
+#[derive(Clone, Copy)]
 pub struct ByTreaties {
     pub gross: u64,
     pub ceded: u64,

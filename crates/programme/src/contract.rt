@@ -11,7 +11,7 @@ pub const PLACES: usize = tier::PLACES;
 
 // The first `count` places are used; in a valid programme every number of the others is 0.
 #[repr(C)]
-#[derive(Drop)]
+#[derive(Clone, Copy)]
 pub struct Treaties {
     pub places: [Treaty; PLACES],
     pub count: usize,
@@ -19,14 +19,14 @@ pub struct Treaties {
 
 // The layers of one tier; places as above.
 #[repr(C)]
-#[derive(Drop)]
+#[derive(Clone, Copy)]
 pub struct Layers {
     pub places: [Terms; PLACES],
     pub count: usize,
 }
 
 #[repr(C)]
-#[derive(Drop)]
+#[derive(Clone, Copy)]
 pub struct Programme {
     pub treaties: Treaties,
     pub risk: Layers,
@@ -34,7 +34,7 @@ pub struct Programme {
 }
 
 // What one line of a table says; a layer's terms stand beside it.
-#[derive(Drop)]
+#[derive(Clone, Copy)]
 pub enum Kind {
     Proportional(Treaty),
     Risk,

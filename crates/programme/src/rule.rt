@@ -20,14 +20,14 @@ const TABLE_OUT_OF_ORDER: u64 = 4;
 const BANDS_OVERLAP: u64 = 5;
 
 // How many of a kind stand before a line, and the last one's number or end of band, 0 without one.
-#[derive(Drop)]
+#[derive(Clone, Copy)]
 pub struct Last {
     pub count: usize,
     pub figure: u64,
 }
 
 // What stands before a line.
-#[derive(Drop)]
+#[derive(Clone, Copy)]
 pub struct Before {
     pub treaties: Last,
     pub risk: Last,

@@ -12,7 +12,7 @@ use text::line;
 
 // A refusal and its line, or refusal 0, the place after the events' numbers, how many events are idle, without losses,
 // and how many are not.
-#[derive(Drop)]
+#[derive(Clone, Copy)]
 pub struct Examined {
     pub refusal: u64,
     pub line: u64,

@@ -14,7 +14,7 @@ const SHARE_RISING: u64 = 30;
 
 // A scale: the shares of the days 1 to 366, in basis points.
 #[repr(C)]
-#[derive(Drop)]
+#[derive(Clone, Copy)]
 pub struct Scale {
     pub shares: [u64; DAYS],
 }
@@ -22,7 +22,7 @@ pub struct Scale {
 // What reading answers: refusal 0 and the scale, or a refusal, its line and a scale with every share 0. The line is 0
 // where no single line is at fault.
 #[repr(C)]
-#[derive(Drop)]
+#[derive(Clone, Copy)]
 pub struct ScaleReading {
     pub refusal: u64,
     pub line: u64,

@@ -1,7 +1,7 @@
 // The kinds of a statement's lines, and how many numbers a line of each kind has. The numbers of a line, one after
 // another, are its row.
 
-#[derive(Drop)]
+#[derive(Clone, Copy)]
 pub enum Kind {
     Event,
     Treaty,

@@ -93,7 +93,7 @@ fn surplus(numbers: Numbers) -> LineRead
 
 // The rates of a layer's line: the place after them, or that there are not as many, and the first twenty, with zeros
 // after them.
-#[derive(Drop)]
+#[derive(Clone, Copy)]
 struct RatesRead {
     place: Place,
     values: [u64; RATES],
@@ -142,7 +142,7 @@ fn rates(line: &[u8], at: usize, count: u64) -> RatesRead
 }
 
 // A layer's terms, where a line is its form.
-#[derive(Drop)]
+#[derive(Clone, Copy)]
 struct LayerRead {
     found: bool,
     terms: Terms,
@@ -167,7 +167,7 @@ fn end(line: &[u8], at: usize) -> Matched
 }
 
 // What ends a layer's line: 1 where it has (time), 0 where it has not; or no such thing.
-#[derive(Drop)]
+#[derive(Clone, Copy)]
 enum Tail {
     Time(u64),
     NoTail,

@@ -3,14 +3,14 @@ use layer::terms::Terms;
 use programme::contract::{Kind, Programme};
 
 // What a line is, but for a layer's terms.
-#[derive(Drop)]
+#[derive(Clone, Copy)]
 pub enum Form {
     Line(Kind),
     NoForm,
 }
 
 // A line read: what it is, with a layer's terms beside it.
-#[derive(Drop)]
+#[derive(Clone, Copy)]
 pub struct LineRead {
     pub form: Form,
     pub terms: Terms,
@@ -18,7 +18,7 @@ pub struct LineRead {
 
 // What reading answers: refusal 0 and the programme, or a refusal, its line and the programme without contracts.
 #[repr(C)]
-#[derive(Drop)]
+#[derive(Clone, Copy)]
 pub struct Reading {
     pub refusal: u64,
     pub line: u64,

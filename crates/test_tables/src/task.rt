@@ -1,7 +1,7 @@
 // What a case is to do: a letter and up to eight numbers with blanks between them.
 ghost use Rattle.std.specs.Prelude.{◌≤◌};
 
-#[derive(Drop)]
+#[derive(Clone, Copy)]
 pub struct Task {
     pub letter: u8,
     pub numbers: [u64; 8],

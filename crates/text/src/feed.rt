@@ -5,7 +5,7 @@ ghost use Rattle.text.specs.Feed.{first_feed};
 use crate::word;
 
 // Where the first line feed stands among eight bytes, or that none of them is one.
-#[derive(Drop)]
+#[derive(Clone, Copy)]
 pub enum Feed {
     First(usize),
     None,

@@ -6,7 +6,7 @@ ghost use Rattle.text.specs.Number.{digit_of, digits, digits_in, number_at, numb
 use crate::{buffer, word};
 
 // A number and the place after it, or no number.
-#[derive(Drop)]
+#[derive(Clone, Copy)]
 pub enum Number {
     Value(u64, usize),
     Nothing,

@@ -7,21 +7,21 @@ use crate::number::Number;
 use crate::{buffer, number};
 
 // The place after a template, or that the text does not have it.
-#[derive(Drop)]
+#[derive(Clone, Copy)]
 pub enum Place {
     At(usize),
     Nowhere,
 }
 
 // What a template finds at a place of a text: the place after it, and its numbers with zeros after them.
-#[derive(Drop)]
+#[derive(Clone, Copy)]
 pub struct Matched {
     pub place: Place,
     pub values: [u64; 8],
 }
 
 // Whether a line is a template with numbers in it, and the numbers, with zeros after them.
-#[derive(Drop)]
+#[derive(Clone, Copy)]
 pub struct Numbers {
     pub found: bool,
     pub values: [u64; 8],

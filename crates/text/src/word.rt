@@ -3,7 +3,7 @@ ghost use Rattle.std.specs.Prelude.{◌≡◌, ◌+◌, ◌/◌, ◌^◌, ◌<�
 ghost use Rattle.text.specs.Word.{byte_of, figures, BytesAt, Lowered, Marked, Leading, Figures, DigitsAt};
 
 // Eight bytes of a text, lowered, and how many digits they begin with.
-#[derive(Drop)]
+#[derive(Clone, Copy)]
 pub struct Digits {
     pub word: u64,
     pub count: usize,

@@ -10,7 +10,7 @@ pub const SURPLUS: u64 = 2;
 // A treaty: its kind, its number in the table, the terms of both kinds (those of the other kind are 0) and
 // its event limit, the most ceded to it of one event. Capacity 0 and limit 0 mean none.
 #[repr(C)]
-#[derive(Drop)]
+#[derive(Clone, Copy)]
 pub struct Treaty {
     pub kind: u64,
     pub number: u64,
@@ -22,7 +22,7 @@ pub struct Treaty {
 }
 
 // A loss: its treaty's number (0: none), its estimated maximum loss E and its amount g.
-#[derive(Drop)]
+#[derive(Clone, Copy)]
 pub struct Loss {
     pub treaty: u64,
     pub maximum: u64,
@@ -30,7 +30,7 @@ pub struct Loss {
 }
 
 // What a treaty does with one loss: what is ceded, what is left, and what the treaty has then taken in the event.
-#[derive(Drop)]
+#[derive(Clone, Copy)]
 pub struct Cession {
     pub ceded: u64,
     pub left: u64,

@@ -4,7 +4,7 @@ use programme::contract::PLACES;
 // Each layer's spent amount, in eight places for each tier, the last day run, and each layer's timed premium, which is
 // 0 where its premium is not by time.
 #[repr(C)]
-#[derive(Drop)]
+#[derive(Clone, Copy)]
 pub struct Standing {
     pub risk: [u64; PLACES],
     pub cat: [u64; PLACES],
@@ -15,7 +15,7 @@ pub struct Standing {
 
 // What opening a year answers: refusal 0 and the fresh standing, or a refusal, its second number and the same.
 #[repr(C)]
-#[derive(Drop)]
+#[derive(Clone, Copy)]
 pub struct Opening {
     pub refusal: u64,
     pub number: u64,
@@ -23,7 +23,7 @@ pub struct Opening {
 }
 
 // What an event, or a whole run, comes to.
-#[derive(Drop)]
+#[derive(Clone, Copy)]
 pub struct Amounts {
     pub gross: u64,
     pub ceded: u64,
