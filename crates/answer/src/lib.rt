@@ -1,4 +1,5 @@
 // What a call answers that writes a text into a lent buffer.
+#![tactic(auto)]
 
 // Refusal 0 and the length of the text written, or a refusal and its second number.
 #[repr(C)]

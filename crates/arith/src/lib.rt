@@ -1,4 +1,6 @@
 // Product-and-divide: a * b / d to the nearest cent, after the whole product has been formed.
+#![tactic(auto)]
+
 ghost use Rattle.std.specs.Prelude.{◌≡◌, ◌+◌, ◌*◌};
 ghost use Rattle.arith.specs.Round.{rounded};
 ghost use Rattle.arith.specs.Ranges.{Wide, Narrow};

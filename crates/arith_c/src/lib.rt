@@ -1,4 +1,6 @@
 // Product-and-divide with C's calling convention, for the benchmark.
+#![tactic(auto)]
+
 ghost use Rattle.std.specs.Prelude.{◌≡◌, ◌*◌};
 ghost use Rattle.arith.specs.Round.{rounded};
 ghost use Rattle.arith.specs.Ranges.{Wide, Narrow};

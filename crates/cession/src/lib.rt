@@ -1,6 +1,8 @@
 // The public calls, with C's calling convention: reading and writing a table, reading a time scale, opening a year,
 // running events, by the built-in shares or by a scale of the client's own. Each answers every input. Each stands on
 // the call below; a run is lent its standing.
+#![tactic(auto)]
+
 ghost use Rattle.std.specs.Prelude.{◌≡◌, length};
 ghost use Rattle.answer.specs.Outcome.{answer_of, buffer_after};
 ghost use Rattle.scale_text.specs.Read.{read_of as readScale};

@@ -1,5 +1,7 @@
 // The program: the table from programme.txt in the current folder, the events from standard input, and on standard
 // output the statement of a year opened for them, or the refusal.
+#![tactic(auto)]
+
 use engine::run;
 use events::rule;
 use libc::{STDIN_FILENO, STDOUT_FILENO};

@@ -1,6 +1,8 @@
 // A client of the public calls alone. It reads and writes the table of H1, opens its year and runs its event, does so
 // with a table that charges by amount and time, by the built-in shares and by a scale of its own, and makes calls that
 // are turned down. What each answers and leaves is typed out, and follows from the calls' contracts.
+#![tactic(auto)]
+
 ghost use Rattle.std.specs.Prelude.{◌≡◌, [], ◌∷◌, ◌++◌, length, replicate};
 ghost use Rattle.text.specs.Bytes.{bytes};
 ghost use Rattle.answer.specs.Outcome.{buffer_after};

@@ -1,1 +1,2 @@
 // What re-dating a year's events leaves as it is: definitions and laws alone.
+#![tactic(auto)]

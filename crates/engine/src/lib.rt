@@ -1,2 +1,4 @@
 // The engine: events run through a year.
+#![tactic(auto)]
+
 pub mod run;

@@ -1,1 +1,2 @@
 // What proofs by hand about lent structs share: definitions and laws alone.
+#![tactic(auto)]

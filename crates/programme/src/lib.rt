@@ -1,4 +1,5 @@
 // A programme of contracts: its numbers' ranges, the rules of its table's lines, and the test of its validity.
+#![tactic(auto)]
 
 pub mod contract;
 pub mod range;

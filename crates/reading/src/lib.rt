@@ -1,4 +1,6 @@
 // The lines of an events text: each is examined, and its event kept as numbers.
+#![tactic(auto)]
+
 ghost use Rattle.std.specs.Prelude.{cond, ◌≡◌, eqb};
 ghost use Rattle.events.specs.Event.{forms_of};
 ghost use Rattle.events.specs.Read.{read_from};

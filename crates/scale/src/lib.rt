@@ -1,4 +1,6 @@
 // Time shares: the built-in table of 366 days, the test of a client's own scale, and the share of a day in any table.
+#![tactic(auto)]
+
 ghost use Rattle.std.specs.Prelude.{◌≡◌, ◌-◌};
 ghost use Rattle.scale.specs.Scale.{time_shares, share_on, scale_passes};
 

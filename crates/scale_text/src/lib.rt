@@ -1,4 +1,6 @@
 // Reading a client's own time scale.
+#![tactic(auto)]
+
 ghost use Rattle.std.specs.Prelude.{◌≡◌, replicate};
 ghost use Rattle.text.specs.Template.{numbers_by};
 ghost use Rattle.scale_text.specs.Read.{day_text, refused_at, read_as, day_fault, read_of};

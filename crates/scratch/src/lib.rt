@@ -1,5 +1,7 @@
 // Numbers kept in a lent slice, one after another. As with bytes, a number is stored only below the slice's length,
 // and the answer is always the next place.
+#![tactic(auto)]
+
 ghost use Rattle.std.specs.Prelude.{[], ◌∷◌, ◌+◌, ◌^◌, ◌≤◌, ◌<◌, length};
 ghost use Rattle.text.specs.Buffer.{Put};
 

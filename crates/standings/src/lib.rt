@@ -1,4 +1,6 @@
 // Standings: a year opened, a standing tested, a tier borne on lent numbers.
+#![tactic(auto)]
+
 ghost use Rattle.std.specs.Prelude.{◌≡◌, true};
 ghost use Rattle.programme.specs.Contracts.{contracts_in};
 ghost use Rattle.programme.specs.Valid.{valid};

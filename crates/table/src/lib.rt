@@ -1,4 +1,6 @@
 // Reading and writing a treaty table.
+#![tactic(auto)]
+
 ghost use Rattle.std.specs.Prelude.{◌≡◌, length};
 ghost use Rattle.answer.specs.Outcome.{answer_of, buffer_after};
 ghost use Rattle.programme.specs.Contracts.{no_contracts};

@@ -1,4 +1,6 @@
 // The table text: a line's form and what reading answers. What reading and writing come to stands in the definitions.
+#![tactic(auto)]
+
 use layer::terms::Terms;
 use programme::contract::{Kind, Programme};
 

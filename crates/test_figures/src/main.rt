@@ -1,5 +1,7 @@
 // The checked figures of document 01, and those of document 02 on rates, event limits, the nearest cent, premium by
 // time and the test of a scale, computed by the code: a line each, held to the stored output.
+#![tactic(auto)]
+
 ghost use Rattle.std.specs.Prelude.{[], ◌∷◌, ◌≡◌, ◌+◌, ◌^◌, ◌≤◌, take};
 ghost use Rattle.treaty.specs.Ranges.{TermsInRange, LossInRange};
 ghost use Rattle.layer.specs.Layer.{terms_of};

@@ -1,6 +1,8 @@
 // Tables typed by hand, read and written: a line a case, held to an output that is made from document 01 alone.
 // The cases are on standard input, as `list` takes them; those with bytes that no text file should hold are in
 // `bytes`.
+#![tactic(auto)]
+
 use libc::STDIN_FILENO;
 
 mod bytes;

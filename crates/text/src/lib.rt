@@ -1,4 +1,6 @@
 // Texts: bytes into a lent buffer, numbers in base 10, templates, lines. No word of insurance.
+#![tactic(auto)]
+
 pub mod buffer;
 pub mod feed;
 pub mod line;

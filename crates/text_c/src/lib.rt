@@ -1,4 +1,6 @@
 // Where a line ends with C's calling convention, by the word and by the byte, for the benchmark.
+#![tactic(auto)]
+
 ghost use Rattle.std.specs.Prelude.{◌≡◌, ◌≤◌, length};
 ghost use Rattle.text.specs.Lines.{line_end};
 

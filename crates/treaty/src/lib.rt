@@ -1,4 +1,6 @@
 // Proportional treaties: what a quota share or a surplus cedes of one loss.
+#![tactic(auto)]
+
 ghost use Rattle.std.specs.Prelude.{◌≡◌};
 ghost use Rattle.treaty.specs.Treaty.{ceded_by_quota, ceded_by_surplus, ceded_of, cut_to_limit, cession_of};
 ghost use Rattle.treaty.specs.Ranges.{AmountInRange, Cedable};

@@ -1,4 +1,6 @@
 // The year: standings and amounts. What a run, a ledger and a history are stands in the definitions.
+#![tactic(auto)]
+
 use programme::contract::PLACES;
 
 // Each layer's spent amount, in eight places for each tier, the last day run, and each layer's timed premium, which is
