@@ -23,7 +23,7 @@ use Rattle.layer.specs.Tier.{recoveries_by, layers_on, layers_through, recoverie
 use Rattle.layer.proofs.Tiers.{recoveries-le-subject}
 use Rattle.scale.specs.Scale.{share_on}
 use Rattle.scale.proofs.Passing.{fair-on}
-use Rattle.programme.specs.Contracts.{Contracts}
+use Rattle.programme.specs.Contract.{Contracts}
 use Rattle.events.specs.Event.{Event}
 use Rattle.year.specs.declared.Amounts.{Amounts}
 use Rattle.year.specs.Event.{Year, left_by_treaties, subject_of, event_after, event_amounts}

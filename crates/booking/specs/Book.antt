@@ -11,7 +11,7 @@ use Rattle.treaty.specs.declared.Loss.{Loss}
 use Rattle.treaty.specs.Ranges.{LossInRange}
 use Rattle.layer.specs.Numbers.{tier_from}
 use Rattle.scale.specs.Scale.{Fair}
-use Rattle.programme.specs.Contracts.{Contracts}
+use Rattle.programme.specs.Contract.{Contracts}
 use Rattle.events.specs.Event.{Event, last_day}
 use Rattle.year.specs.declared.Amounts.{Amounts}
 use Rattle.year.specs.Event.{Year, event_after, event_amounts, year_after}

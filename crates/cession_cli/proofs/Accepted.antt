@@ -14,7 +14,7 @@ use Rattle.answer.specs.Outcome.{Outcome, refused, written, answer_of, buffer_af
 use Rattle.answer.proofs.Outcomes.{either_way}
 use Rattle.treaty.specs.declared.Treaty.{Treaty}
 use Rattle.programme.specs.declared.contract.Programme.{Programme}
-use Rattle.programme.specs.Contracts.{Contracts, contracts_in}
+use Rattle.programme.specs.Contract.{Contracts, contracts_in}
 use Rattle.programme.specs.Valid.{valid}
 use Rattle.events.specs.Event.{Event, forms_of}
 use Rattle.events.specs.Rules.{event_fault}

@@ -18,7 +18,7 @@ use Rattle.treaty.specs.Losses.{gross_of}
 use Rattle.layer.specs.declared.terms.Terms.{Terms}
 use Rattle.layer.specs.Layer.{recovered_of, premium_of}
 use Rattle.programme.specs.declared.contract.Programme.{Programme}
-use Rattle.programme.specs.Contracts.{contracts_in}
+use Rattle.programme.specs.Contract.{contracts_in}
 use Rattle.events.specs.Event.{Event}
 use Rattle.year.specs.Tiers.{TierName, risk, cat, in_tier}
 use Rattle.year.specs.Ledger.{first_entry, Ledger, first_ledger}

@@ -15,7 +15,7 @@ use Rattle.layer.specs.declared.terms.Terms.{Terms}
 use Rattle.layer.specs.Layer.{premium_of, is_timed, timed_most}
 use Rattle.layer.proofs.Dues.{timed-plain, year-plain}
 use Rattle.programme.specs.declared.contract.Programme.{Programme}
-use Rattle.programme.specs.Contracts.{contracts_in}
+use Rattle.programme.specs.Contract.{contracts_in}
 use Rattle.year.specs.declared.Standing.{Standing}
 use Rattle.year.specs.Tiers.{TierName, risk, cat, in_tier}
 use Rattle.year.specs.Ledger.{Entry, spent_by}

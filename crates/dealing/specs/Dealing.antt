@@ -9,7 +9,7 @@ use mathlib.Core.List.{List, [], map, Perm}
 use Rattle.treaty.specs.declared.Loss.{Loss}
 use Rattle.layer.specs.Layer.{premium_of}
 use Rattle.programme.specs.declared.contract.Programme.{Programme}
-use Rattle.programme.specs.Contracts.{contracts_in}
+use Rattle.programme.specs.Contract.{contracts_in}
 use Rattle.events.specs.Event.{Event}
 use Rattle.year.specs.Tiers.{TierName, risk, in_tier}
 use Rattle.year.specs.Ledger.{Entry, spent_by}

@@ -11,7 +11,7 @@ use Rattle.layer.specs.Numbers.{tier_from}
 use Rattle.scale.specs.Scale.{Fair}
 use Rattle.programme.specs.declared.contract.Layers.{Layers}
 use Rattle.programme.specs.declared.contract.Programme.{Programme}
-use Rattle.programme.specs.Contracts.{Contracts, treaties_in, layers_in, contracts_in}
+use Rattle.programme.specs.Contract.{Contracts, treaties_in, layers_in, contracts_in}
 use Rattle.programme.specs.Valid.{valid_layers, valid}
 use Rattle.programme.proofs.Validity.{valid_tells, layers_tell, layers-few}
 use Rattle.year.specs.declared.Standing.{Standing}

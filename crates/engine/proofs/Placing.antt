@@ -7,7 +7,7 @@ use native.Mathlib.Omega.{arith}
 use lib.ListN.{length}
 use Rattle.answer.specs.Outcome.{Outcome, refused, buffer_after}
 use Rattle.answer.proofs.Outcomes.{too_long}
-use Rattle.programme.specs.Contracts.{Contracts}
+use Rattle.programme.specs.Contract.{Contracts}
 use Rattle.text.proofs.Puts.{no_bytes}
 use Rattle.events.specs.Event.{forms_of}
 use Rattle.events.specs.Read.{EventsRead, turned_down_at, events, read_from}

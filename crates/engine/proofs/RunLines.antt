@@ -14,7 +14,7 @@ use Rattle.treaty.specs.declared.Loss.{Loss}
 use Rattle.treaty.specs.Ranges.{LossInRange}
 use Rattle.layer.specs.Numbers.{tier_from}
 use Rattle.answer.specs.Outcome.{refused}
-use Rattle.programme.specs.Contracts.{Contracts}
+use Rattle.programme.specs.Contract.{Contracts}
 use Rattle.events.specs.Event.{Event, forms_of}
 use Rattle.events.specs.Read.{EventsRead, turned_down_at, events, read_from}
 use Rattle.events.proofs.Reading.{EventLawful, lines-lawful}

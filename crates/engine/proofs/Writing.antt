@@ -9,7 +9,7 @@ use Rattle.text.specs.Buffer.{Put}
 use Rattle.answer.specs.Outcome.{refused}
 use Rattle.answer.proofs.Outcomes.{too_long, put_written, put-after}
 use Rattle.year.specs.declared.Standing.{Standing}
-use Rattle.programme.specs.Contracts.{Contracts}
+use Rattle.programme.specs.Contract.{Contracts}
 use Rattle.events.specs.Event.{Event, last_day}
 use Rattle.year.specs.Event.{year_after}
 use Rattle.year.specs.Standing.{standing_of, year_of}

@@ -9,7 +9,7 @@ use Rattle.treaty.specs.Ranges.{LossInRange}
 use Rattle.layer.specs.Numbers.{tier_from}
 use Rattle.scale.specs.Scale.{scale_passes}
 use Rattle.programme.specs.declared.contract.Programme.{Programme}
-use Rattle.programme.specs.Contracts.{Contracts, contracts_in}
+use Rattle.programme.specs.Contract.{Contracts, contracts_in}
 use Rattle.programme.specs.Valid.{valid}
 use Rattle.events.specs.Event.{Event, forms_of, last_day}
 use Rattle.events.specs.Read.{events, read_from}

@@ -20,7 +20,7 @@ use Rattle.treaty.specs.Treaty.{loss_of, ceded_of_loss, cession_of}
 use Rattle.treaty.specs.Losses.{gross_of, ceded_in, ceded_of_each, left_of_each}
 use Rattle.treaty.specs.Ranges.{TermsInRange, LossInRange, Cedable}
 use Rattle.treaty.proofs.Cessions.{ceded-le-amount}
-use Rattle.programme.specs.Contracts.{no_treaty}
+use Rattle.programme.specs.Contract.{no_treaty}
 use Rattle.losses.specs.Treaties.{each_number, with_number, places_from, treaties_from, Registered}
 use Rattle.losses.specs.Cede.{losses_from, ceded_added, AfterTreaties}
 use Rattle.losses.specs.Event.{CanCedeEach}

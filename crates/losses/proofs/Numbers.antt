@@ -13,7 +13,7 @@ use Rattle.lists.specs.Each.{Each}
 use Rattle.lists.proofs.Each.{each_of, each_map}
 use Rattle.treaty.specs.declared.Treaty.{Treaty}
 use Rattle.treaty.specs.Ranges.{TermsInRange}
-use Rattle.programme.specs.Contracts.{no_treaty}
+use Rattle.programme.specs.Contract.{no_treaty}
 use Rattle.events.specs.Rules.{in_table}
 use Rattle.losses.specs.Treaties.{each_number, with_number, numbered}
 

@@ -11,7 +11,7 @@ use Rattle.lists.specs.Each.{Each}
 use Rattle.lists.proofs.Cases.{by-lt}
 use Rattle.treaty.specs.declared.Treaty.{Treaty}
 use Rattle.treaty.proofs.Losses.{Numbered}
-use Rattle.programme.specs.Contracts.{no_treaty}
+use Rattle.programme.specs.Contract.{no_treaty}
 use Rattle.losses.specs.Treaties.{with_number, numbered, present}
 
 -- n numbers from k on

@@ -17,7 +17,7 @@ use Rattle.lists.proofs.Rows.{rows-length, row_set}
 use Rattle.treaty.specs.declared.Treaty.{Treaty}
 use Rattle.treaty.proofs.Losses.{Numbered}
 use Rattle.programme.specs.declared.contract.Treaties.{Treaties}
-use Rattle.programme.specs.Contracts.{no_treaty, treaties_in}
+use Rattle.programme.specs.Contract.{no_treaty, treaties_in}
 use Rattle.programme.specs.Rules.{treaty_number}
 use Rattle.programme.specs.Valid.{treaty_passes, treaty_unused, valid_treaties}
 use Rattle.programme.proofs.Bounds.{treaty_in_range}

@@ -12,7 +12,7 @@ use Rattle.lists.proofs.Each.{each_so, each-chained}
 use Rattle.treaty.specs.declared.Treaty.{Treaty}
 use Rattle.treaty.specs.Ranges.{TermsInRange}
 use Rattle.treaty.proofs.Losses.{Numbered}
-use Rattle.programme.specs.Contracts.{no_treaty}
+use Rattle.programme.specs.Contract.{no_treaty}
 use Rattle.programme.specs.Rules.{treaty_number}
 use Rattle.programme.specs.Valid.{treaty_passes}
 use Rattle.programme.proofs.Bounds.{treaty_in_range}

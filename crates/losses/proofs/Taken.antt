@@ -13,7 +13,7 @@ use Rattle.treaty.specs.declared.Loss.{Loss}
 use Rattle.treaty.specs.Treaty.{ceded_of, cut_to_limit, ceded_of_loss, cessions_from, own_losses, taken_by}
 use Rattle.treaty.specs.Losses.{ceded_in}
 use Rattle.treaty.proofs.Losses.{taken_next}
-use Rattle.programme.specs.Contracts.{no_treaty}
+use Rattle.programme.specs.Contract.{no_treaty}
 use Rattle.losses.specs.Treaties.{with_number}
 
 -- what the treaty with the number n took of losses

@@ -9,7 +9,7 @@ use lib.Seq.{get_or-take, get_or-drop}
 use Rattle.lists.specs.Rows.{rows}
 use Rattle.lists.proofs.Rows.{rows-length, row_at}
 use Rattle.treaty.specs.declared.Treaty.{Treaty}
-use Rattle.programme.specs.Contracts.{no_treaty}
+use Rattle.programme.specs.Contract.{no_treaty}
 use Rattle.losses.specs.Treaties.{treaty_from, places_from}
 
 -- one for each number

@@ -5,7 +5,7 @@ use Rattle.std.specs.Prelude.{true, cond, ◌≡◌, List, [], ◌∷◌, map, �
 use Rattle.lists.specs.Rows.{rows}
 use Rattle.lists.specs.Chains.{chained}
 use Rattle.treaty.specs.declared.Treaty.{Treaty}
-use Rattle.programme.specs.Contracts.{no_treaty}
+use Rattle.programme.specs.Contract.{no_treaty}
 use Rattle.programme.specs.Rules.{treaty_number}
 use Rattle.programme.specs.Valid.{treaty_passes}
 

@@ -1,7 +1,7 @@
 // A table's treaties by their numbers, as numbers in a lent slice: for each T from 0 to 8 those of treaty T, in the
 // order of its fields, and zeros where the table has none. No other file knows where a number stands.
 ghost use Rattle.std.specs.Prelude.{true, cond, ◌≡◌, ◌<◌, ◌≤◌, length, get_or};
-ghost use Rattle.programme.specs.Contracts.{no_treaty, treaties_in};
+ghost use Rattle.programme.specs.Contract.{no_treaty, treaties_in};
 ghost use Rattle.programme.specs.Valid.{valid_treaties};
 ghost use Rattle.events.specs.Rules.{in_table};
 ghost use Rattle.losses.specs.Treaties.{treaty_width, treaty_numbers, treaty_from};

@@ -13,7 +13,7 @@ use Rattle.programme.specs.declared.contract.Kind.{Kind}
 use Rattle.programme.specs.declared.contract.Kind.TheVariants.{Proportional, Risk, Cat}
 use Rattle.programme.specs.declared.rule.Last.{Last}
 use Rattle.programme.specs.declared.rule.Before.{Before}
-use Rattle.programme.specs.Contracts.{contract_of}
+use Rattle.programme.specs.Contract.{contract_of}
 use Rattle.programme.specs.Ranges.{treaty_outside, terms_outside}
 use Rattle.programme.specs.Rules.{treaty_fault, layer_fault, fault_after}
 use Rattle.programme.specs.LineByLine.{next_of, before_next}

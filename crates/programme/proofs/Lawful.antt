@@ -18,8 +18,8 @@ use Rattle.layer.specs.declared.terms.Terms.{Terms}
 use Rattle.programme.specs.declared.contract.Treaties.{Treaties}
 use Rattle.programme.specs.declared.contract.Layers.{Layers}
 use Rattle.programme.specs.declared.contract.Programme.{Programme}
-use Rattle.programme.specs.Contracts.{Contracts, no_treaty, no_terms, treaty_places, layer_places}
-use Rattle.programme.specs.Contracts.{programme_of, treaties_in, layers_in, contracts_in}
+use Rattle.programme.specs.Contract.{Contracts, no_treaty, no_terms, treaty_places, layer_places}
+use Rattle.programme.specs.Contract.{programme_of, treaties_in, layers_in, contracts_in}
 use Rattle.programme.specs.Ranges.{outside, treaty_outside, rates_outside, terms_outside}
 use Rattle.programme.specs.Ranges.{treaty_not_zero, terms_not_zero}
 use Rattle.programme.specs.Rules.{treaty_number, band_end}

@@ -12,7 +12,7 @@ use Rattle.lists.proofs.Chains.{both}
 use Rattle.programme.specs.declared.contract.Treaties.{Treaties}
 use Rattle.programme.specs.declared.contract.Layers.{Layers}
 use Rattle.programme.specs.declared.contract.Programme.{Programme}
-use Rattle.programme.specs.Contracts.{treaties_in, layers_in}
+use Rattle.programme.specs.Contract.{treaties_in, layers_in}
 use Rattle.programme.specs.Rules.{treaty_number, band_end}
 use Rattle.programme.specs.Valid.{treaty_passes, layer_passes, treaty_unused, terms_unused}
 use Rattle.programme.specs.Valid.{eight_places, valid_treaties, valid_layers, valid}

@@ -1,4 +1,4 @@
-pub mod Contracts
+pub mod Contract
 pub mod Ranges
 pub mod Rules
 pub mod LineByLine

@@ -5,7 +5,7 @@ use Rattle.programme.specs.declared.contract.Kind.{Kind}
 use Rattle.programme.specs.declared.contract.Kind.TheVariants as kind
 use Rattle.programme.specs.declared.rule.Last.{Last}
 use Rattle.programme.specs.declared.rule.Before.{Before}
-use Rattle.programme.specs.Contracts.{Contract, Proportional, Risk, Cat}
+use Rattle.programme.specs.Contract.{Contract, Proportional, Risk, Cat}
 use Rattle.programme.specs.Rules.{band_end}
 
 -- how many of a contract's kind stand before it: its place

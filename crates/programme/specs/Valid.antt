@@ -7,7 +7,7 @@ use Rattle.layer.specs.declared.terms.Terms.{Terms}
 use Rattle.programme.specs.declared.contract.Treaties.{Treaties}
 use Rattle.programme.specs.declared.contract.Layers.{Layers}
 use Rattle.programme.specs.declared.contract.Programme.{Programme}
-use Rattle.programme.specs.Contracts.{treaties_in, layers_in}
+use Rattle.programme.specs.Contract.{treaties_in, layers_in}
 use Rattle.programme.specs.Ranges.{treaty_outside, terms_outside, treaty_not_zero, terms_not_zero}
 use Rattle.programme.specs.Rules.{treaty_number, band_end}
 

@@ -1,6 +1,6 @@
 // A programme: its treaties, risk layers and cat layers, each kind in eight places.
 ghost use Rattle.std.specs.Prelude.{◌≡◌};
-ghost use Rattle.programme.specs.Contracts.{no_treaty, no_terms, no_contracts, programme_of};
+ghost use Rattle.programme.specs.Contract.{no_treaty, no_terms, no_contracts, programme_of};
 
 use layer::terms::{RATES, Terms};
 use layer::tier;

@@ -1,6 +1,6 @@
 // Faults 3, 4 and 5 of a table's line that is one of the four forms.
 ghost use Rattle.std.specs.Prelude.{◌≡◌, ◌≤◌};
-ghost use Rattle.programme.specs.Contracts.{no_contracts, contract_of};
+ghost use Rattle.programme.specs.Contract.{no_contracts, contract_of};
 ghost use Rattle.programme.specs.Rules.{treaty_fault, layer_fault, fault_after};
 ghost use Rattle.programme.specs.Rules.{before_of};
 ghost use Rattle.programme.specs.LineByLine.{place_after, before_next, next_of, EightAtMost};

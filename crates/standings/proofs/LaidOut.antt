@@ -16,7 +16,7 @@ use Rattle.layer.specs.declared.terms.Terms.{Terms}
 use Rattle.layer.specs.Numbers.{terms_width, plain_numbers, tier_numbers, tier_from}
 use Rattle.layer.proofs.TermsRows.{Full, numbers-length, numbers_more, tier-back}
 use Rattle.programme.specs.declared.contract.Layers.{Layers}
-use Rattle.programme.specs.Contracts.{layers_in}
+use Rattle.programme.specs.Contract.{layers_in}
 use Rattle.programme.specs.Rules.{band_end}
 use Rattle.programme.specs.Valid.{layer_passes, valid_layers}
 use Rattle.programme.proofs.Bounds.{terms_in_range}

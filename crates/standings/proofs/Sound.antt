@@ -6,7 +6,7 @@ use Prim.Native.Nat.{◌≤◌}
 use borrow.Author.Tests.{leb-true}
 use lib.Dec.{leb}
 use Rattle.lists.proofs.Chains.{both}
-use Rattle.programme.specs.Contracts.{Contracts}
+use Rattle.programme.specs.Contract.{Contracts}
 use Rattle.year.specs.declared.Standing.{Standing}
 use Rattle.year.specs.Standing.{tier_passes, standing_passes}
 

@@ -23,7 +23,7 @@ use Rattle.layer.specs.Layer.{cap_of, layer_of, timed_most}
 use Rattle.layer.specs.Ranges.{InRange}
 use Rattle.programme.specs.declared.contract.Layers.{Layers}
 use Rattle.programme.specs.declared.contract.Programme.{Programme}
-use Rattle.programme.specs.Contracts.{layers_in, contracts_in}
+use Rattle.programme.specs.Contract.{layers_in, contracts_in}
 use Rattle.programme.specs.Rules.{band_end}
 use Rattle.programme.specs.Valid.{layer_passes, terms_unused, valid_layers}
 use Rattle.programme.proofs.Bounds.{terms_in_range}

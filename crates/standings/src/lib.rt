@@ -2,7 +2,7 @@
 #![tactic(auto)]
 
 ghost use Rattle.std.specs.Prelude.{◌≡◌, true};
-ghost use Rattle.programme.specs.Contracts.{contracts_in};
+ghost use Rattle.programme.specs.Contract.{contracts_in};
 ghost use Rattle.programme.specs.Valid.{valid};
 ghost use Rattle.year.specs.Standing.{fresh, standing_passes, open_of};
 

@@ -1,7 +1,7 @@
 // A tier's terms as numbers in lent places, through a run.
 ghost use Rattle.std.specs.Prelude.{true, ◌≡◌, ◌*◌, length, take};
 ghost use Rattle.layer.specs.Numbers.{terms_width, tier_from};
-ghost use Rattle.programme.specs.Contracts.{layers_in};
+ghost use Rattle.programme.specs.Contract.{layers_in};
 ghost use Rattle.programme.specs.Valid.{valid_layers};
 
 use layer::numbers;

@@ -1,7 +1,7 @@
 // The spent amounts and timed premiums of one tier, tested against its layers.
 ghost use Rattle.std.specs.Prelude.{◌≡◌, true, [], ℕ, ◌≤◌, eqb, drop};
 ghost use Rattle.lists.specs.Chains.{every};
-ghost use Rattle.programme.specs.Contracts.{layers_in};
+ghost use Rattle.programme.specs.Contract.{layers_in};
 ghost use Rattle.programme.specs.Valid.{valid_layers};
 ghost use Rattle.year.specs.Standing.{layers_with, within_cap, within_premium, tier_passes};
 

@@ -21,7 +21,7 @@ use Rattle.layer.specs.declared.terms.Terms.{Terms}
 use Rattle.layer.specs.Layer.{rate_places}
 use Rattle.programme.specs.declared.contract.Kind.{Kind}
 use Rattle.programme.specs.declared.contract.Kind.TheVariants as kind
-use Rattle.programme.specs.Contracts.{contract_of}
+use Rattle.programme.specs.Contract.{contract_of}
 use Rattle.table_text.specs.declared.LineRead.{LineRead}
 use Rattle.table_text.specs.declared.Form.TheVariants as form
 use Rattle.table_text.specs.Forms.{form_read, risk_text, cat_text, end_text, plain_tail, time_tail, rates_text, terms_from}

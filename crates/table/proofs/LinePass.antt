@@ -20,8 +20,8 @@ use Rattle.programme.specs.declared.contract.Kind.{Kind}
 use Rattle.programme.specs.declared.contract.Kind.TheVariants as kind
 use Rattle.programme.specs.declared.rule.Last.{Last}
 use Rattle.programme.specs.declared.rule.Before.{Before}
-use Rattle.programme.specs.Contracts.{Proportional, Risk, Cat, contract_of, Contracts, no_contracts}
-use Rattle.programme.specs.Contracts.{with_contract, no_treaty, no_terms, programme_of}
+use Rattle.programme.specs.Contract.{Proportional, Risk, Cat, contract_of, Contracts, no_contracts}
+use Rattle.programme.specs.Contract.{with_contract, no_treaty, no_terms, programme_of}
 use Rattle.programme.specs.Rules.{treaty_number, band_end, last_of, before_of, fault_after}
 use Rattle.programme.specs.Rules.{fault_of}
 use Rattle.programme.specs.LineByLine.{place_after, before_next, EightAtMost}

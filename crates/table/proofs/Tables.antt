@@ -24,7 +24,7 @@ use Rattle.layer.specs.declared.terms.Terms.{Terms}
 use Rattle.layer.specs.Layer.{is_timed}
 use Rattle.programme.specs.declared.contract.Layers.{Layers}
 use Rattle.programme.specs.declared.contract.Programme.{Programme}
-use Rattle.programme.specs.Contracts.{Contracts, treaties_in, layers_in, contracts_in}
+use Rattle.programme.specs.Contract.{Contracts, treaties_in, layers_in, contracts_in}
 use Rattle.programme.specs.Ranges.{terms_outside}
 use Rattle.programme.specs.Rules.{band_end}
 use Rattle.programme.specs.Valid.{layer_passes, terms_unused, valid_layers, valid}

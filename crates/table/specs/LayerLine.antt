@@ -6,7 +6,7 @@ use Rattle.text.specs.Template.{matched}
 use Rattle.text.specs.declared.template.Place.TheVariants.{At, Nowhere}
 use Rattle.layer.specs.declared.terms.Terms.{Terms}
 use Rattle.layer.specs.Layer.{rate_places}
-use Rattle.programme.specs.Contracts.{no_terms}
+use Rattle.programme.specs.Contract.{no_terms}
 use Rattle.table_text.specs.Forms.{rates_text}
 use Rattle.table.specs.declared.form.RatesRead.{RatesRead}
 use Rattle.table.specs.declared.form.LayerRead.{LayerRead}

@@ -1,7 +1,7 @@
 // A line of a table as one of the four forms.
 ghost use Rattle.std.specs.Prelude.{◌≡◌, ◌≤◌, length, drop};
 ghost use Rattle.text.specs.Template.{holes, matched_at};
-ghost use Rattle.programme.specs.Contracts.{contract_of};
+ghost use Rattle.programme.specs.Contract.{contract_of};
 ghost use Rattle.table_text.specs.Forms.{kind_of, quota_form, surplus_form, end_text, tail_time, layer_terms};
 ghost use Rattle.table_text.specs.Forms.{form_if, form_read, form_of};
 ghost use Rattle.table.specs.LayerLine.{rates_at, no_rates, tail_read, layer_read, no_layer};

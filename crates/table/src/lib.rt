@@ -3,7 +3,7 @@
 
 ghost use Rattle.std.specs.Prelude.{◌≡◌, length};
 ghost use Rattle.answer.specs.Outcome.{answer_of, buffer_after};
-ghost use Rattle.programme.specs.Contracts.{no_contracts};
+ghost use Rattle.programme.specs.Contract.{no_contracts};
 ghost use Rattle.table_text.specs.Forms.{forms_of};
 ghost use Rattle.table_text.specs.Read.{refused_at, read_from, read_of};
 ghost use Rattle.table_text.specs.Write.{write_of};

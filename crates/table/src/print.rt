@@ -3,7 +3,7 @@ ghost use Rattle.std.specs.Prelude.{[], ◌∷◌, ◌++◌, map, ◌≡◌, tru
 ghost use Rattle.text.specs.Buffer.{Put};
 ghost use Rattle.text.specs.Lines.{joined};
 ghost use Rattle.text.specs.Template.{holes, filled};
-ghost use Rattle.programme.specs.Contracts.{treaties_in, layers_in};
+ghost use Rattle.programme.specs.Contract.{treaties_in, layers_in};
 ghost use Rattle.programme.specs.Valid.{valid_layers, valid};
 ghost use Rattle.table_text.specs.Forms.{rate_text, rates_text, treaty_line, tail_of, terms_line};
 ghost use Rattle.table_text.specs.Write.{text_of};

@@ -16,7 +16,7 @@ use Rattle.layer.specs.Layer.{terms_of}
 use Rattle.answer.specs.Outcome.{refused, written, text_only, fitted, answer_of, buffer_after}
 use Rattle.programme.specs.declared.contract.Programme.{Programme}
 use Rattle.programme.specs.declared.contract.Kind.TheVariants as kind
-use Rattle.programme.specs.Contracts.{Proportional, Risk, Cat, Contracts, no_contracts, no_treaty, no_terms, programme_of}
+use Rattle.programme.specs.Contract.{Proportional, Risk, Cat, Contracts, no_contracts, no_treaty, no_terms, programme_of}
 use Rattle.programme.specs.Ranges.{outside, treaty_outside, rates_outside, terms_outside, treaty_not_zero, terms_not_zero}
 use Rattle.programme.specs.Rules.{treaty_fault, layer_fault}
 use Rattle.programme.specs.Valid.{valid_treaties, valid_layers, valid}

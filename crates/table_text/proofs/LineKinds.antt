@@ -12,7 +12,7 @@ use Rattle.text.specs.Template.{numbers_by}
 use Rattle.text.specs.declared.template.Numbers.{Numbers}
 use Rattle.treaty.specs.declared.Treaty.{Treaty}
 use Rattle.programme.specs.declared.contract.Kind.TheVariants as kind
-use Rattle.programme.specs.Contracts.{Contract, Proportional, Risk, Cat}
+use Rattle.programme.specs.Contract.{Contract, Proportional, Risk, Cat}
 use Rattle.table_text.specs.declared.LineRead.{LineRead}
 use Rattle.table_text.specs.declared.Form.TheVariants as form
 use Rattle.table_text.specs.Forms.{Form, Line, NoForm, form_read, quota_text, surplus_text, risk_text, cat_text}

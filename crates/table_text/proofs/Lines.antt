@@ -22,7 +22,7 @@ use Rattle.text.proofs.Feeds.{NoFeed, feedless, filled-no-feed}
 use Rattle.text.proofs.Ascii.{Byte, all-bytes, filled-bytes}
 use Rattle.treaty.specs.declared.Treaty.{Treaty}
 use Rattle.layer.specs.declared.terms.Terms.{Terms}
-use Rattle.programme.specs.Contracts.{Contract, Proportional, Risk, Cat}
+use Rattle.programme.specs.Contract.{Contract, Proportional, Risk, Cat}
 use Rattle.programme.specs.Ranges.{terms_outside}
 use Rattle.programme.proofs.Bounds.{QuotaInRange, SurplusInRange, TreatyInRange}
 use Rattle.programme.proofs.Bounds.{treaty_in_range, terms_in_range, rates-back}

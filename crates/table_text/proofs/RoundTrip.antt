@@ -9,7 +9,7 @@ use Rattle.lists.specs.Each.{Each}
 use Rattle.lists.proofs.Each.{each_of, each_map}
 use Rattle.text.proofs.Ascii.{Byte, joined_bytes}
 use Rattle.programme.specs.declared.contract.Programme.{Programme}
-use Rattle.programme.specs.Contracts.{contracts_in_order, contracts_in}
+use Rattle.programme.specs.Contract.{contracts_in_order, contracts_in}
 use Rattle.programme.specs.Valid.{valid}
 use Rattle.programme.proofs.Lawful.{contracts-placed, lawful-valid, valid-placed, valid-lawful}
 use Rattle.table_text.specs.Forms.{line_of, table_of}

@@ -16,8 +16,8 @@ use Rattle.text.specs.Lines.{joined}
 use Rattle.text.proofs.Feeds.{NoFeed, lines-joined}
 use Rattle.treaty.specs.declared.Treaty.{Treaty}
 use Rattle.layer.specs.declared.terms.Terms.{Terms}
-use Rattle.programme.specs.Contracts.{Contract, Proportional, Risk, Cat}
-use Rattle.programme.specs.Contracts.{Contracts, no_contracts, with_contract, contracts_in_order, programme_of}
+use Rattle.programme.specs.Contract.{Contract, Proportional, Risk, Cat}
+use Rattle.programme.specs.Contract.{Contracts, no_contracts, with_contract, contracts_in_order, programme_of}
 use Rattle.programme.specs.Rules.{treaty_number, band_end, last_of, treaty_fault, layer_fault, fault_of}
 use Rattle.programme.specs.Valid.{treaty_passes, layer_passes}
 use Rattle.programme.proofs.Faults.{treaty-fine, layer-fine}

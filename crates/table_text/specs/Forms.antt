@@ -10,7 +10,7 @@ use Rattle.treaty.specs.declared.Treaty.{Treaty}
 use Rattle.treaty.specs.Treaty.{quota_of, surplus_of}
 use Rattle.layer.specs.declared.terms.Terms.{Terms}
 use Rattle.layer.specs.Layer.{terms_of, is_timed}
-use Rattle.programme.specs.Contracts.{Contract, Proportional, Risk, Cat, contract_of, Contracts, contracts_in_order}
+use Rattle.programme.specs.Contract.{Contract, Proportional, Risk, Cat, contract_of, Contracts, contracts_in_order}
 use Rattle.table_text.specs.declared.LineRead.{LineRead}
 use Rattle.table_text.specs.declared.Form.TheVariants as form
 

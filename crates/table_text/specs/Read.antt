@@ -2,7 +2,7 @@
 -- Assumes nothing.
 use Rattle.std.specs.Prelude.{true, false, List, [], ◌∷◌, ℕ, zero, suc, ◌+◌, ltb, length}
 use Rattle.programme.specs.declared.contract.Programme.{Programme}
-use Rattle.programme.specs.Contracts.{Contracts, no_contracts, with_contract, programme_of}
+use Rattle.programme.specs.Contract.{Contracts, no_contracts, with_contract, programme_of}
 use Rattle.programme.specs.Rules.{fault_of}
 use Rattle.table_text.specs.declared.Reading.{Reading}
 use Rattle.table_text.specs.Forms.{Form, Line, NoForm, forms_of}

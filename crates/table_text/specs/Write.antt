@@ -3,7 +3,7 @@
 use Rattle.std.specs.Prelude.{true, false, List, ℕ}
 use Rattle.answer.specs.Outcome.{Outcome, TextOnly, refused, text_only, fitted}
 use Rattle.programme.specs.declared.contract.Programme.{Programme}
-use Rattle.programme.specs.Contracts.{contracts_in}
+use Rattle.programme.specs.Contract.{contracts_in}
 use Rattle.programme.specs.Valid.{valid}
 use Rattle.table_text.specs.Forms.{table_of}
 

@@ -13,7 +13,7 @@ use Rattle.lists.proofs.Cases.{by_test}
 use Rattle.layer.specs.declared.terms.Terms.{Terms}
 use Rattle.layer.specs.declared.record.Layer.{Layer}
 use Rattle.programme.specs.declared.contract.Programme.{Programme}
-use Rattle.programme.specs.Contracts.{Contracts, contracts_in}
+use Rattle.programme.specs.Contract.{Contracts, contracts_in}
 use Rattle.programme.proofs.Lawful.{valid-lawful}
 use Rattle.events.specs.Event.{Event, last_day}
 use Rattle.year.specs.declared.Standing.{Standing}

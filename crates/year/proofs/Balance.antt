@@ -22,7 +22,7 @@ use Rattle.layer.specs.declared.record.Layer.{Layer}
 use Rattle.layer.specs.Tier.{recoveries_by, layers_after, recoveries_through, left_through}
 use Rattle.layer.proofs.Tiers.{recoveries-le-subject, recovered_and_left_through}
 use Rattle.scale.specs.Scale.{Fair}
-use Rattle.programme.specs.Contracts.{Contracts}
+use Rattle.programme.specs.Contract.{Contracts}
 use Rattle.programme.specs.Rules.{treaty_number, band_end}
 use Rattle.programme.specs.Valid.{treaty_passes, layer_passes}
 use Rattle.programme.proofs.Lawful.{Lawful}

@@ -18,7 +18,7 @@ use Rattle.layer.specs.Tier.{recoveries_by, recoveries_through}
 use Rattle.layer.proofs.Recoveries.{recovered-zero, recovered_mono}
 use Rattle.layer.proofs.PremiumApart.{recoveries_paid}
 use Rattle.scale.specs.Scale.{share_on}
-use Rattle.programme.specs.Contracts.{Contracts}
+use Rattle.programme.specs.Contract.{Contracts}
 use Rattle.events.specs.Event.{Event}
 use Rattle.year.specs.declared.Amounts.{Amounts}
 use Rattle.year.specs.Tiers.{TierName, risk, cat, in_tier}

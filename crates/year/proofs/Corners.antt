@@ -18,7 +18,7 @@ use Rattle.layer.specs.Layer.{timed_most, year_premium}
 use Rattle.answer.specs.declared.Answer.{Answer}
 use Rattle.answer.specs.Outcome.{Outcome, fitted, answer_of, buffer_after}
 use Rattle.programme.specs.declared.contract.Programme.{Programme}
-use Rattle.programme.specs.Contracts.{no_contracts, programme_of}
+use Rattle.programme.specs.Contract.{no_contracts, programme_of}
 use Rattle.programme.specs.Ranges.{outside, treaty_outside, rates_outside, terms_outside, treaty_not_zero, terms_not_zero}
 use Rattle.programme.specs.Valid.{valid_treaties, valid_layers, valid}
 use Rattle.events.specs.Event.{closes, losses_up_to, event_of}

@@ -21,7 +21,7 @@ use Rattle.layer.specs.Layer.{cap_of, timed_most, layer_of, year_premium}
 use Rattle.layer.proofs.Year.{spent_determined}
 use Rattle.answer.specs.Outcome.{Outcome}
 use Rattle.programme.specs.declared.contract.Programme.{Programme}
-use Rattle.programme.specs.Contracts.{contracts_in}
+use Rattle.programme.specs.Contract.{contracts_in}
 use Rattle.programme.proofs.Lawful.{valid-lawful, at-most-eight}
 use Rattle.events.specs.Event.{Event}
 use Rattle.events.proofs.Reading.{read_none}

@@ -17,7 +17,7 @@ use Rattle.layer.specs.declared.record.Layer.{Layer}
 use Rattle.layer.specs.Layer.{recovered_of, premium_of, is_timed, timed_most, year_premium}
 use Rattle.layer.proofs.Recoveries.{recovered-zero}
 use Rattle.programme.specs.declared.contract.Programme.{Programme}
-use Rattle.programme.specs.Contracts.{contracts_in}
+use Rattle.programme.specs.Contract.{contracts_in}
 use Rattle.programme.proofs.Lawful.{Lawful, valid-lawful}
 use Rattle.events.specs.Event.{Event}
 use Rattle.year.specs.Tiers.{TierName, risk, cat, in_tier}

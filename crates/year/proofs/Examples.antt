@@ -20,7 +20,7 @@ use Rattle.layer.specs.Layer.{timed_most, year_premium}
 use Rattle.scale.specs.Scale.{day_share, time_shares, scale_passes}
 use Rattle.answer.specs.Outcome.{fitted}
 use Rattle.programme.specs.declared.contract.Programme.{Programme}
-use Rattle.programme.specs.Contracts.{contracts_in}
+use Rattle.programme.specs.Contract.{contracts_in}
 use Rattle.programme.specs.Ranges.{outside, treaty_outside, rates_outside, terms_outside, treaty_not_zero, terms_not_zero}
 use Rattle.programme.specs.Rules.{treaty_fault, layer_fault}
 use Rattle.programme.specs.Valid.{valid_treaties, valid_layers, valid}

@@ -19,7 +19,7 @@ use Rattle.scale.specs.Scale.{scale_passes, Fair}
 use Rattle.scale.proofs.Passing.{passes-fair}
 use Rattle.answer.specs.Outcome.{Outcome}
 use Rattle.programme.specs.declared.contract.Programme.{Programme}
-use Rattle.programme.specs.Contracts.{contracts_in}
+use Rattle.programme.specs.Contract.{contracts_in}
 use Rattle.programme.specs.Valid.{valid}
 use Rattle.programme.proofs.Lawful.{valid-lawful}
 use Rattle.events.specs.Event.{Event, last_day}

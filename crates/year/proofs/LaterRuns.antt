@@ -10,7 +10,7 @@ use lib.ListN.{length}
 use Rattle.lists.proofs.Chains.{last-append}
 use Rattle.scale.specs.Scale.{scale_passes}
 use Rattle.programme.specs.declared.contract.Programme.{Programme}
-use Rattle.programme.specs.Contracts.{contracts_in}
+use Rattle.programme.specs.Contract.{contracts_in}
 use Rattle.programme.specs.Valid.{valid}
 use Rattle.events.specs.Event.{Event, last_day}
 use Rattle.events.specs.Read.{events, events_of}

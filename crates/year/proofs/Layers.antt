@@ -22,7 +22,7 @@ use Rattle.layer.specs.Ranges.{Sound, Rising}
 use Rattle.layer.proofs.Tiers.{each_after, each_on}
 use Rattle.scale.specs.Scale.{share_on, Fair}
 use Rattle.scale.proofs.Passing.{fair-on}
-use Rattle.programme.specs.Contracts.{Contracts}
+use Rattle.programme.specs.Contract.{Contracts}
 use Rattle.programme.specs.Rules.{band_end}
 use Rattle.programme.specs.Valid.{layer_passes}
 use Rattle.programme.proofs.Bounds.{terms_in_range}

@@ -6,7 +6,7 @@ use mathlib.Core.List.{List, []}
 use Prim.Native.Nat.{ℕ}
 use Rattle.lists.proofs.Cases.{by_test}
 use Rattle.programme.specs.declared.contract.Programme.{Programme}
-use Rattle.programme.specs.Contracts.{contracts_in}
+use Rattle.programme.specs.Contract.{contracts_in}
 use Rattle.programme.proofs.Lawful.{valid-lawful}
 use Rattle.year.specs.Standing.{fresh, year_of}
 use Rattle.year.specs.History.{Call, events_of_history}

@@ -21,7 +21,7 @@ use Rattle.layer.specs.Layer.{brought_by, year_premium}
 use Rattle.layer.specs.Tier.{layers_on, layers_through}
 use Rattle.scale.specs.Scale.{share_on, scale_passes}
 use Rattle.programme.specs.declared.contract.Programme.{Programme}
-use Rattle.programme.specs.Contracts.{contracts_in}
+use Rattle.programme.specs.Contract.{contracts_in}
 use Rattle.events.specs.Event.{Event}
 use Rattle.year.specs.Tiers.{TierName, risk, cat, in_tier}
 use Rattle.year.specs.Event.{Year, left_by_treaties, subject_of, event_after, year_after}

@@ -11,7 +11,7 @@ use Rattle.lists.specs.Chains.{chained}
 use Rattle.lists.proofs.Chains.{both}
 use Rattle.layer.specs.declared.terms.Terms.{Terms}
 use Rattle.programme.specs.declared.contract.Programme.{Programme}
-use Rattle.programme.specs.Contracts.{Contracts, contracts_in, programme_of}
+use Rattle.programme.specs.Contract.{Contracts, contracts_in, programme_of}
 use Rattle.programme.specs.Ranges.{outside, terms_outside}
 use Rattle.programme.specs.Rules.{band_end}
 use Rattle.programme.specs.Valid.{layer_passes, valid}

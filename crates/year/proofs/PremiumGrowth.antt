@@ -15,7 +15,7 @@ use Rattle.layer.proofs.Records.{sound-on}
 use Rattle.layer.proofs.Through.{on_each, due_each, due_blind, layers-each, dues-each}
 use Rattle.scale.specs.Scale.{share_on, Fair}
 use Rattle.scale.proofs.Passing.{fair-on}
-use Rattle.programme.specs.Contracts.{Contracts}
+use Rattle.programme.specs.Contract.{Contracts}
 use Rattle.programme.proofs.Lawful.{Lawful}
 use Rattle.events.specs.Event.{Event}
 use Rattle.year.specs.Event.{Year, left_by_treaties, subject_of, event_after, event_amounts, year_after}

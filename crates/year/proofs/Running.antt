@@ -11,7 +11,7 @@ use Rattle.answer.specs.Outcome.{Outcome, refused}
 use Rattle.answer.proofs.Outcomes.{fits, either_way, left-same}
 use Rattle.scale.specs.Scale.{scale_passes}
 use Rattle.programme.specs.declared.contract.Programme.{Programme}
-use Rattle.programme.specs.Contracts.{Contracts, contracts_in}
+use Rattle.programme.specs.Contract.{Contracts, contracts_in}
 use Rattle.programme.specs.Valid.{valid}
 use Rattle.events.specs.Event.{Event, last_day}
 use Rattle.events.specs.Read.{EventsRead, turned_down_at, events, events_of}

@@ -19,7 +19,7 @@ use Rattle.layer.specs.Layer.{due_for, due_of, timed_part, timed_most, year_prem
 use Rattle.scale.specs.Scale.{day_share, time_shares, scale_passes}
 use Rattle.answer.specs.Outcome.{fitted, answer_of}
 use Rattle.programme.specs.declared.contract.Programme.{Programme}
-use Rattle.programme.specs.Contracts.{Contracts}
+use Rattle.programme.specs.Contract.{Contracts}
 use Rattle.programme.specs.Ranges.{outside, treaty_outside, rates_outside, terms_outside, treaty_not_zero, terms_not_zero}
 use Rattle.programme.specs.Rules.{treaty_fault, layer_fault}
 use Rattle.programme.specs.Valid.{valid_treaties, valid_layers, valid}

@@ -11,7 +11,7 @@ use Rattle.text.proofs.Cuts.{WholeLines}
 use Rattle.treaty.specs.declared.Treaty.{Treaty}
 use Rattle.scale.proofs.Passing.{passes-fair}
 use Rattle.programme.specs.declared.contract.Programme.{Programme}
-use Rattle.programme.specs.Contracts.{Contracts, contracts_in}
+use Rattle.programme.specs.Contract.{Contracts, contracts_in}
 use Rattle.programme.proofs.Lawful.{valid-lawful}
 use Rattle.events.specs.Event.{Event, last_day}
 use Rattle.events.proofs.Reading.{Cut, read-cut, read-days}

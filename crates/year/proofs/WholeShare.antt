@@ -19,7 +19,7 @@ use Rattle.scale.specs.Scale.{scale_passes, time_shares}
 use Rattle.scale.proofs.Table.{built_in_passes}
 use Rattle.answer.specs.Outcome.{Outcome, refused, fitted}
 use Rattle.programme.specs.declared.contract.Programme.{Programme}
-use Rattle.programme.specs.Contracts.{contracts_in}
+use Rattle.programme.specs.Contract.{contracts_in}
 use Rattle.programme.specs.Valid.{valid}
 use Rattle.programme.proofs.Lawful.{valid-lawful}
 use Rattle.events.specs.Event.{Event, last_day}

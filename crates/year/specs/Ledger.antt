@@ -11,7 +11,7 @@ use Rattle.layer.specs.declared.terms.Terms.{Terms}
 use Rattle.layer.specs.Layer.{brought_by, cut_at_cap, recovered_of, premium_of, due_for, timed_part}
 use Rattle.scale.specs.Scale.{share_on}
 use Rattle.programme.specs.declared.contract.Programme.{Programme}
-use Rattle.programme.specs.Contracts.{Contracts, contracts_in}
+use Rattle.programme.specs.Contract.{Contracts, contracts_in}
 use Rattle.events.specs.Event.{Event, stated_in}
 use Rattle.year.specs.Tiers.{Tiers}
 

@@ -8,7 +8,7 @@ use Rattle.std.specs.Prelude.{true, false, List, ℕ}
 use Rattle.answer.specs.Outcome.{Outcome, refused, written, fitted}
 use Rattle.scale.specs.Scale.{time_shares, scale_passes}
 use Rattle.programme.specs.declared.contract.Programme.{Programme}
-use Rattle.programme.specs.Contracts.{Contracts, contracts_in}
+use Rattle.programme.specs.Contract.{Contracts, contracts_in}
 use Rattle.programme.specs.Valid.{valid}
 use Rattle.events.specs.Event.{last_day}
 use Rattle.events.specs.Read.{EventsRead, turned_down_at, events, events_of}

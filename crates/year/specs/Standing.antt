@@ -9,7 +9,7 @@ use Rattle.layer.specs.declared.terms.Terms.{Terms}
 use Rattle.layer.specs.declared.record.Layer.{Layer}
 use Rattle.layer.specs.Layer.{cap_of, layer_of, timed_most}
 use Rattle.programme.specs.declared.contract.Programme.{Programme}
-use Rattle.programme.specs.Contracts.{Contracts}
+use Rattle.programme.specs.Contract.{Contracts}
 use Rattle.programme.specs.Valid.{valid}
 use Rattle.year.specs.declared.Standing.{Standing}
 use Rattle.year.specs.declared.Opening.{Opening}
