@@ -1,0 +1,22 @@
+-- `scratch::keep_cut` meets its contract.
+-- Assumes nothing.
+use Prim.Native.Nat.{◌-◌}
+use lib.ListN.{length}
+use borrow.Author.Rules.{rules}
+use Rattle.text.proofs.Copies as law
+use Rattle.scratch.proofs.keep_cut.Goals as goal
+
+pub loop-i-init : goal.loop-i-init
+loop-i-init c = search law.none_copied
+
+pub put-next-requires : goal.put-next-requires
+put-next-requires c = search law.next_small
+
+pub loop-i-preserved : goal.loop-i-preserved
+loop-i-preserved c = search law.one_copied
+
+pub shape_of-kept : goal.shape_of-kept
+shape_of-kept c = search law.copied_length
+
+pub returns : goal.returns
+returns c = search law.all_copied

@@ -1,0 +1,11 @@
+-- `text::buffer::put_bytes` meets its contract.
+-- Assumes nothing.
+use Rattle.std.proofs.Common.{◌-◌, length, rules}
+use Rattle.text.proofs.Copies as law
+use Rattle.text.proofs.buffer.put_bytes.Given as goal
+
+abbrev pub invariant-loop-i : goal.invariant-loop-i
+invariant-loop-i l = law.Copying l.bytes l.initial.out l.at l.out l.next l.i
+
+abbrev pub decreases-loop-i : goal.decreases-loop-i
+decreases-loop-i l = length l.bytes - l.i

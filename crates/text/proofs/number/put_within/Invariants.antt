@@ -1,0 +1,11 @@
+-- `text::number::put_within` meets its contract.
+-- Assumes nothing.
+use Rattle.std.proofs.Common.{rules}
+use Rattle.text.proofs.Backwards as law
+use Rattle.text.proofs.number.put_within.Given as goal
+
+abbrev pub invariant-loop-v : goal.invariant-loop-v
+invariant-loop-v l = law.Backward l.n l.initial.out l.at l.out l.v l.i
+
+abbrev pub decreases-loop-v : goal.decreases-loop-v
+decreases-loop-v l = l.v
