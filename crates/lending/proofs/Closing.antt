@@ -5,7 +5,7 @@ use seplogic.Ra.Ura.{Ura}
 use mir.Syntax.{Fn}
 use prog.Wp.{Closed, WpFn, Tables}
 use prog.Model.{Model}
-use prog.Routine.{Name, Env}
+use prog.Routine.{Callee, Env}
 use sound.WpLaws.{WpFn-mono}
 use types.Logic.{Logic}
 use contract.Running.{Running, tables, tables_of}
@@ -23,7 +23,7 @@ module _ {M : Type 1} {𝓤 : Ura M} (𝓛 : Logic 𝓤) (𝓜 : Model 𝓤 𝓛
 
   module _ (T : Ended) (hs : Stays T.signature.params T.kept)
       (goes : AllGo 𝓛 T.signature.lifetimes T.signature.params T.kept hs) where
-    pub followed : (k : Name) (e : Fn) → Closed 𝓤 H (tables 𝓤 H 𝓜 𝓡 γ).C (tables 𝓤 H 𝓜 𝓡 γ).Λ k e
+    pub followed : (k : Callee) (e : Fn) → Closed 𝓤 H (tables 𝓤 H 𝓜 𝓡 γ).C (tables 𝓤 H 𝓜 𝓡 γ).Λ k e
         → (c : Clauses 𝓤 T) → Walks 𝓛 T hs (WpFn 𝓤 H 𝓣.C 𝓣.Λ e) c
         → Triple 𝓤 ((tables 𝓤 H 𝓜 𝓡 γ).C k) (triple_of 𝓛 T.signature (closing 𝓛 T c))
     unfolding tables_of

@@ -13,7 +13,7 @@ pub use lib.WfN.{lt-wf_rel as Nat·lt-wfRel}
 pub use borrow.Author.Tests.{ltb-true, ltb-false}
 -- machine values and their types
 pub use seplogic.Ra.Ura.{Ura}
-pub use seplogic.Ra.TreeShare.{full_share}
+pub use base.Fraction.{full_share}
 pub use mir.Syntax.{Ty, named, mut, imm, w64, ty_int, ty_bool, ty_ptr, ty_ref, erased}
 pub use mir.Val.{Val, vint, vptr, vbool, vstruct, vcons, vnil}
 -- what is owned, and how code runs
@@ -23,13 +23,14 @@ pub use prog.Memory.{Memory}
 pub use prog.Routine.{Routine}
 pub use prog.Wp.{Heap, WpFn, Tables, Calls, Loops}
 unfoldable pub use prog.Wp.{after_turn}
-pub use ghost.Atoms.{Atoms, sem}
+pub use ghost.Atoms.{Atoms}
+pub use types.Logic.{sem}
 pub use sound.WpLaws.{FmC, fm_of}
 pub use contract.Monad.{Fun, fact}
-pub use contract.Running.{given_of, tables}
+pub use contract.Running.{tables}
 unfoldable pub use contract.Running.{tables_of}
 -- the steps of a proof
-pub use types.Kit.{Given, Item, ‵, raw, ◌⊛◌, ⋆, some, later, given, ◌$◌, ◌∵◌, !, qed, by, done}
+pub use types.Kit.{Item, ‵, raw, ◌⊛◌, ⋆, some, later, given, ◌$◌, ◌∵◌, !, qed, by, done}
 pub use types.Kit.{move, keep, drop as let_go, use1, use2, use3, split, join, pick, learn, rewrite, suffices, frame}
 pub use types.Kit.{await, fsplit, fsplit3, fjoin, fjoin3, feq_l, feq_i}
 pub use types.Run.{look, look_raw, init, store, store_raw, forget, stop, hop, fld, from, load, lit, of_opd, bin, addr}
