@@ -1,0 +1,7 @@
+-- `programme::contract::Programme::empty` meets its contract.
+-- Assumes nothing.
+use borrow.Author.Rules.{rules}
+use Rattle.programme.proofs.contract.Programme.empty.Goals as goal
+
+pub returns : goal.returns
+returns c = rw (c.no_treaty-treaties.ensures, c.no_terms-terms.ensures)

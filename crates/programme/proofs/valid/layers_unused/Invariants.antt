@@ -1,0 +1,17 @@
+-- `programme::valid::layers_unused` meets its contract.
+-- Assumes nothing.
+use mathlib.Core.Path.{◌≡◌}
+use Prim.Native.Nat.{◌-◌}
+use native.Mathlib.Omega.{arith}
+use lib.ListN.{length}
+use borrow.Author.Rules.{rules}
+use Rattle.lists.proofs.Chains.{Passing, every-begins, every-next, every-stops, every-ends}
+use Rattle.programme.specs.Valid.{terms_unused}
+use Rattle.programme.proofs.Tests.{terms-used, terms-unused}
+use Rattle.programme.proofs.valid.layers_unused.Given as goal
+
+abbrev pub invariant-loop-i : goal.invariant-loop-i
+invariant-loop-i l = (length l.places ≡ 8) × Passing terms_unused l.from l.places l.i
+
+abbrev pub decreases-loop-i : goal.decreases-loop-i
+decreases-loop-i l = 8 - l.i
