@@ -161,6 +161,27 @@ pub record Entering (s : List ℕ) (ts : List Treaty) (rs cs : List Terms) (befo
   pub place : k ≡ place_after before x
   pub after : next ≡ before_next before (contract_of x read.terms)
 
+-- so it is where the line's test n is 0
+pub entering : {s : List ℕ} {ts : List Treaty} {rs cs : List Terms} {before : Before} {number at e : ℕ} {read : LineRead}
+    {x : Kind} {k : ℕ} {next : Before} {n : ℕ} → Going s ts rs cs before number at
+    → (e ≡ line_end s at) × (at ≤ e) × (e ≤ length s) → at < length s → (e ≡ length s → ⊥)
+    → form_read read ≡ form_of (take (e - at) (drop at s)) → read.form ≡ form.Line x
+    → n ≡ fault_after before (contract_of x read.terms) → n ≡ 0 → k ≡ place_after before x
+    → next ≡ before_next before (contract_of x read.terms)
+    → Entering s ts rs cs before number at e read x k next
+entering going end inside feed line kind fault none place after = record {
+  going = going;
+  end = end.0;
+  inside = inside;
+  within = end.2;
+  feed = feed;
+  line = line;
+  kind = kind;
+  fine = sym fault ∙ none;
+  place = place;
+  after = after;
+}
+
 module _ {s : List ℕ} {ts : List Treaty} {rs cs : List Terms} {before : Before} {number at e : ℕ} {read : LineRead}
     {x : Kind} {k : ℕ} {next : Before} (g : Entering s ts rs cs before number at e read x k next) where
   -- less of the text is left

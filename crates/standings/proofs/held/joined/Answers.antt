@@ -1,0 +1,8 @@
+-- `standings::held::joined` meets its contract.
+-- Assumes nothing.
+use borrow.Author.Rules.{rules}
+use Rattle.standings.proofs.Halves.{both-eight}
+use Rattle.standings.proofs.held.joined.Goals as goal
+
+pub returns : goal.returns
+returns c = search both-eight

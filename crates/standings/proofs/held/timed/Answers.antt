@@ -1,0 +1,8 @@
+-- `standings::held::timed` meets its contract.
+-- Assumes nothing.
+use borrow.Author.Rules.{rules}
+use Rattle.standings.proofs.Halves.{last-eight}
+use Rattle.standings.proofs.held.timed.Goals as goal
+
+pub returns : goal.returns
+returns c = search last-eight

@@ -1,0 +1,13 @@
+-- `standings::tier::reached` meets its contract.
+-- Assumes nothing.
+use Prim.Native.Nat.{◌-◌}
+use borrow.Author.Rules.{rules}
+use Rattle.layer.specs.Numbers.{tier_from}
+use Rattle.standings.proofs.Extent as law
+use Rattle.standings.proofs.tier.reached.Given as goal
+
+abbrev pub invariant-loop-i : goal.invariant-loop-i
+invariant-loop-i l = law.Reaching l.amount (tier_from l.terms) l.count l.i
+
+abbrev pub decreases-loop-i : goal.decreases-loop-i
+decreases-loop-i l = l.count - l.i

@@ -1,0 +1,12 @@
+-- `standings::tier::store_timed` meets its contract.
+-- Assumes nothing.
+use Prim.Native.Nat.{◌-◌}
+use borrow.Author.Rules.{rules}
+use Rattle.standings.proofs.Stores as law
+use Rattle.standings.proofs.tier.store_timed.Given as goal
+
+abbrev pub invariant-loop-i : goal.invariant-loop-i
+invariant-loop-i l = law.Storing (λ y. y.timed.0) l.from l.count l.layers l.initial.places l.places l.i
+
+abbrev pub decreases-loop-i : goal.decreases-loop-i
+decreases-loop-i l = l.count - l.i

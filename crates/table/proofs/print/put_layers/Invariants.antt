@@ -1,0 +1,17 @@
+-- `table::print::put_layers` meets its contract.
+-- Assumes nothing.
+use Prim.Native.Nat.{◌-◌}
+use borrow.Author.Rules.{rules}
+use Rattle.lists.proofs.Passes.{unmapped}
+use Rattle.text.proofs.Passes.{none_passed, passed_length}
+use Rattle.programme.proofs.Validity.{layers-few}
+use Rattle.table_text.specs.Forms.{terms_line}
+use Rattle.table.proofs.Tables as law
+use Rattle.table.proofs.print.put_layers.Given as goal
+
+abbrev pub invariant-loop-i : goal.invariant-loop-i
+invariant-loop-i l =
+    law.Lined (terms_line l.begin) 3200 l.layers.places l.count l.initial.out l.at l.out l.next l.i
+
+abbrev pub decreases-loop-i : goal.decreases-loop-i
+decreases-loop-i l = l.count - l.i

@@ -1,0 +1,16 @@
+-- `table::print::put_treaties` meets its contract.
+-- Assumes nothing.
+use Prim.Native.Nat.{◌-◌}
+use borrow.Author.Rules.{rules}
+use Rattle.lists.proofs.Passes.{unmapped}
+use Rattle.text.proofs.Passes.{none_passed, passed_length, passed-small}
+use Rattle.table_text.specs.Forms.{treaty_line}
+use Rattle.table.proofs.Tables as law
+use Rattle.table.proofs.print.put_treaties.Given as goal
+
+abbrev pub invariant-loop-i : goal.invariant-loop-i
+invariant-loop-i l =
+    law.Lined treaty_line 1200 l.treaties.places l.count l.initial.out l.at l.out l.next l.i
+
+abbrev pub decreases-loop-i : goal.decreases-loop-i
+decreases-loop-i l = l.count - l.i
