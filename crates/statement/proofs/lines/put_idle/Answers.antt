@@ -1,0 +1,11 @@
+-- `statement::lines::put_idle` meets its contract.
+-- Assumes nothing.
+use borrow.Author.Rules.{rules}
+use Rattle.statement.proofs.LineSizes as law
+use Rattle.statement.proofs.lines.put_idle.Goals as goal
+
+pub returns-then-out-eq0 : goal.returns-then-out-eq0
+returns-then-out-eq0 c = (search law.idle-measured, search rules)
+
+pub returns : goal.returns
+returns c = (search rules, search law.idle-short)
