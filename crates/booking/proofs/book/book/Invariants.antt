@@ -1,0 +1,17 @@
+-- `booking::book::book` meets its contract.
+-- Assumes nothing.
+use mathlib.Core.Path.{sym, ap, ◌∙◌}
+use Prim.Native.Nat.{◌-◌}
+use borrow.Author.Rules.{rules}
+use lib.ListN.{length}
+use Rattle.booking.proofs.EventsBooking as law
+use Rattle.booking.proofs.book.book.Given as goal
+
+abbrev pub invariant-loop-at : goal.invariant-loop-at
+invariant-loop-at l =
+    law.Booking l.shares l.register l.risk l.cat l.events l.day l.initial.risk_held l.initial.cat_held l.initial.out l.risk_held l.cat_held l.cessions l.out l.total
+    l.last l.next l.at
+
+abbrev pub decreases-loop-at : goal.decreases-loop-at
+decreases-loop-at l =
+    length l.events - l.at
