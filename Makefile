@@ -21,20 +21,23 @@ shared = $(CC) -shared -Wl,--whole-archive $(built)/libcession.a -Wl,--no-whole-
 	-o $(built)/libcession.so
 
 .PHONY: all library program test install uninstall help
-# Two runs of rt on one target/ would get in each other's way.
+# Two runs of rt wait for each other, and would prove the same crates.
 .NOTPARALLEL:
 
 all: library program
 
-# The static library, and the shared one made of it.
+# The static library, which rt names after its crate, and the shared one made of it.
 library:
-	@mkdir -p target
-	@rt staticlib cession > target/staticlib.log 2>&1 || { cat target/staticlib.log >&2; exit 1; }
+	@mkdir -p $(built)
+	@(cd crates/cession_c && rt lib) > target/staticlib.log 2>&1 || { cat target/staticlib.log >&2; exit 1; }
+	@install -m 644 crates/cession_c/out/libcession_c.a $(built)/libcession.a
 	@$(shared)
 
+# rt runs what it has built: without a table and without events, which the program answers with a refusal.
 program:
-	@mkdir -p target
-	@rt check cession_cli > target/program.log 2>&1 || { cat target/program.log >&2; exit 1; }
+	@mkdir -p $(dir $(command))
+	@(cd crates/cession_cli && rt run < /dev/null) > target/program.log 2>&1 || { cat target/program.log >&2; exit 1; }
+	@install -m 755 crates/cession_cli/out/cession_cli $(command)
 
 # The gate calls make too, with folders of its own: nothing that this one was given is for those calls.
 test:

@@ -6,7 +6,7 @@ import re
 
 EXTENSION = r"(?:antt|rt|rs|py|md|h|c|svg|txt|edit|1)"
 PATH = re.compile(rf"(?<![\w./$-])(?:[\w.{{}},*-]+/)+(?:[\w*-][\w.{{}},*-]*)?|(?<![\w./-])\w[\w-]*\.{EXTENSION}(?!\w)")
-NAME = re.compile(r"[A-Za-z_][\w′]*(?:-[\w′]+)*(?:(?:::|\.)[A-Za-z_][\w′-]*)*")
+NAME = re.compile(r"[A-Za-z_][\w']*(?:-[\w']+)*(?:(?:::|\.)[A-Za-z_][\w'-]*)*")
 # In a longer piece of code: Type::name, camelCase, snake_case, Type, and a function before a bracket.
 COMPOUND = re.compile(r"(?<![\w.-])(?:[A-Za-z]\w*(?:::\w+)+|[a-z]+[A-Z]\w*|[a-z]+(?:_[a-z0-9]+)+|[A-Z][a-z]\w*)"
                       r"(?![\w-])|^[a-z]\w*(?= \()")

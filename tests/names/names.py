@@ -137,7 +137,7 @@ class Check:
 
     def rooms(self):
         """The folders of crates/, the crates of crates.txt and those that README's picture draws."""
-        listed = set(re.findall(r"(?m)^(\w+):", (ROOT / "crates.txt").read_text()))
+        listed = set(re.findall(r"(?m)^(\w+)(?: staticlib)?:", (ROOT / "crates.txt").read_text()))
         picture = re.search(r"(?ms)those before it:\n\n((?:    .*\n?)*)", (ROOT / "README.md").read_text())
         drawn = set(re.findall(r"\w+", picture[1] if picture else ""))
         self.faults += [f"crates.txt: no such crate: {name}" for name in sorted(listed - self.declared.crates)]

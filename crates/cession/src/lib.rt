@@ -1,6 +1,6 @@
-// The public calls, with C's calling convention: reading and writing a table, reading a time scale, opening a year,
-// running events, by the built-in shares or by a scale of the client's own. Each answers every input. Each stands on
-// the call below; a run is lent its standing.
+// The public calls: reading and writing a table, reading a time scale, opening a year, running events, by the built-in
+// shares or by a scale of the client's own. Each answers every input. Each stands on the call below; a run is lent its
+// standing. With C's calling convention they are in `cession_c`.
 #![tactic(auto)]
 
 ghost use Rattle.std.specs.Prelude.{◌≡◌, length};
@@ -19,16 +19,14 @@ use table_text::Reading;
 use year::{Opening, Standing};
 
 // Reads a table text.
-#[unsafe(no_mangle)]
-pub extern "C" fn cession_read(text: &[u8]) -> Reading
+pub fn cession_read(text: &[u8]) -> Reading
     ensures { result ≡ read_of text.now }
 {
     table::read(text)
 }
 
 // Writes a programme's table text into a buffer.
-#[unsafe(no_mangle)]
-pub extern "C" fn cession_write(programme: Programme, buffer: &mut [u8]) -> Answer
+pub fn cession_write(programme: Programme, buffer: &mut [u8]) -> Answer
     ensures { (result ≡ answer_of (write_of programme (length buffer.old)))
         × (buffer.new
         ≡ buffer_after (write_of programme (length buffer.old)) buffer.old) }
@@ -37,24 +35,21 @@ pub extern "C" fn cession_write(programme: Programme, buffer: &mut [u8]) -> Answ
 }
 
 // Reads a scale text.
-#[unsafe(no_mangle)]
-pub extern "C" fn cession_read_scale(text: &[u8]) -> ScaleReading
+pub fn cession_read_scale(text: &[u8]) -> ScaleReading
     ensures { result ≡ readScale text.now }
 {
     scale_text::read(text)
 }
 
 // Opens a year.
-#[unsafe(no_mangle)]
-pub extern "C" fn cession_open(programme: Programme) -> Opening
+pub fn cession_open(programme: Programme) -> Opening
     ensures { result ≡ open_of programme }
 {
     standings::open(programme)
 }
 
 // Runs an events text under a programme. The standing is lent, and the new one is left in it.
-#[unsafe(no_mangle)]
-pub extern "C" fn cession_run(
+pub fn cession_run(
     programme: Programme,
     standing: &mut Standing,
     events: &[u8],
@@ -76,8 +71,7 @@ pub extern "C" fn cession_run(
 }
 
 // The same by a lent scale: the shares of the days 1 to 366.
-#[unsafe(no_mangle)]
-pub extern "C" fn cession_run_scaled(
+pub fn cession_run_scaled(
     programme: Programme,
     standing: &mut Standing,
     scale: &[u64],

@@ -1,5 +1,7 @@
 // Reading a text from a file, where a read that fails is not taken for the end of the text.
-ghost use Rattle.io.specs.Counts.{IsPrefixLen};
+ghost use Rattle.std.specs.Prelude.{◌≡◌, ◌≤◌, length, take};
+
+use std::io::Read;
 
 // What reading came to: whether a read failed, and how many bytes were read before that or before the end.
 #[derive(Clone, Copy)]
@@ -9,16 +11,15 @@ pub struct Filled {
 }
 
 // Reads until the buffer is full, the text ends or a read fails.
-pub fn fill(file: i32, buffer: &mut [u8]) -> Filled
-    ensures { IsPrefixLen result.size buffer.new }
+pub fn fill(file: &mut impl Read, buffer: &mut [u8]) -> Filled
+    ensures within { result.size ≤ length buffer.new }
+    ensures front { length (take result.size buffer.new) ≡ result.size }
 {
     let mut size: usize = 0;
     while size < buffer.len() {
-        let got = libc::read(file, &mut buffer[size..]);
-        if got < 0 {
+        let Ok(more) = file.read(&mut buffer[size..]) else {
             return Filled { failed: true, size };
-        }
-        let more = io::count(got, &buffer[size..]);
+        };
         if more == 0 {
             return Filled {
                 failed: false,

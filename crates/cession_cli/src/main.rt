@@ -4,81 +4,85 @@
 
 use engine::run;
 use events::rule;
-use libc::{STDIN_FILENO, STDOUT_FILENO};
 use programme::contract::Programme;
+use std::fs::File;
+use std::io::Read;
 use year::Standing;
 
 mod input;
 
-// Bytes to standard output.
-fn words(text: &[u8]) {
-    io::write_all(STDOUT_FILENO, text);
+// Bytes to standard output. What cannot be written there is let go: the program goes on.
+fn words(rt: &impl Print, text: &[u8]) {
+    let _ = rt.write_all(text);
+}
+
+// A number in decimal, likewise.
+fn decimal(rt: &impl Print, n: u64) {
+    let _ = rt.print(n);
 }
 
 // A refusal and its second number, as a line.
-fn refuse(refusal: u64, number: u64) {
-    words(b"(refused ");
-    io::print_decimal(STDOUT_FILENO, refusal);
-    words(b" ");
-    io::print_decimal(STDOUT_FILENO, number);
-    words(b")\n");
+fn refuse(rt: &impl Print, refusal: u64, number: u64) {
+    words(rt, b"(refused ");
+    decimal(rt, refusal);
+    words(rt, b" ");
+    decimal(rt, number);
+    words(rt, b")\n");
 }
 
 // A table of 8,192 bytes is accepted: one byte more is read, so that a longer one is refused and not cut.
-fn run_file(file: i32) {
+fn run_file(rt: &(impl Print + Input), mut file: impl Read + Drop) {
     let mut table = [0u8; table::TABLE_BYTES + 1];
-    let text = input::fill(file, &mut table);
-    libc::close(file);
+    let text = input::fill(&mut file, &mut table);
+    drop(file);
     if text.failed {
-        refuse(0, 0);
+        refuse(rt, 0, 0);
         return;
     }
-    run_table(&table[..text.size]);
+    run_table(rt, &table[..text.size]);
 }
 
 // A year opened for a table's programme.
-fn run_table(table: &[u8]) {
+fn run_table(rt: &(impl Print + Input), table: &[u8]) {
     let reading = cession::cession_read(table);
     if reading.refusal != 0 {
-        refuse(reading.refusal, reading.line);
+        refuse(rt, reading.refusal, reading.line);
         return;
     }
     let opening = cession::cession_open(reading.programme);
     if opening.refusal != 0 {
-        refuse(opening.refusal, opening.number);
+        refuse(rt, opening.refusal, opening.number);
         return;
     }
-    run_year(reading.programme, opening.standing);
+    run_year(rt, reading.programme, opening.standing);
 }
 
 // Events of 65,536 bytes are accepted: one byte more is read here too.
-fn run_year(programme: Programme, standing: Standing) {
+fn run_year(rt: &(impl Print + Input), programme: Programme, standing: Standing) {
     let mut events = [0u8; rule::EVENTS_BYTES + 1];
-    let text = input::fill(STDIN_FILENO, &mut events);
+    let text = input::fill(&mut rt.reader(), &mut events);
     if text.failed {
-        refuse(0, 0);
+        refuse(rt, 0, 0);
         return;
     }
-    run_events(programme, standing, &events[..text.size]);
+    run_events(rt, programme, standing, &events[..text.size]);
 }
 
 // The statement of a run, or its refusal. The run is the one by value below `cession_run`: no standing is lent here.
-fn run_events(programme: Programme, standing: Standing, events: &[u8]) {
-    let mut statement = io::large_buffer();
+fn run_events(rt: &impl Print, programme: Programme, standing: Standing, events: &[u8]) {
+    let mut statement = [0u8; 65536];
     let ran = run::run(programme, standing, events, &mut statement);
     let answer = ran.answer;
     if answer.refusal != 0 {
-        refuse(answer.refusal, answer.number);
+        refuse(rt, answer.refusal, answer.number);
         return;
     }
-    words(&statement[..answer.number as usize]);
+    words(rt, &statement[..answer.number as usize]);
 }
 
-fn main() {
-    let file = os::open_read(b"programme.txt");
-    if file < 0 {
-        refuse(0, 0);
-        return;
+fn main(rt: HostRuntime) {
+    match File::open(&rt, "programme.txt") {
+        Ok(file) => run_file(&rt, file),
+        Err(_) => refuse(&rt, 0, 0),
     }
-    run_file(file);
 }

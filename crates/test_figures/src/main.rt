@@ -11,22 +11,26 @@ use layer::amount::{Placed, Whole};
 use layer::record::{Layer, Sums};
 use layer::terms::Terms;
 use layer::tier;
-use libc::STDOUT_FILENO;
 use treaty::{Loss, Treaty};
 
-fn amount(cents: u64) {
-    io::write_all(STDOUT_FILENO, b" ");
-    io::print_decimal(STDOUT_FILENO, cents);
+// Bytes to standard output. What cannot be written there is let go: the program goes on.
+fn words(rt: &impl Print, text: &[u8]) {
+    let _ = rt.write_all(text);
 }
 
-fn end_line() {
-    io::write_all(STDOUT_FILENO, b"\n");
+fn amount(rt: &impl Print, cents: u64) {
+    words(rt, b" ");
+    let _ = rt.print(cents);
 }
 
-fn line(name: &[u8], cents: u64) {
-    io::write_all(STDOUT_FILENO, name);
-    amount(cents);
-    end_line();
+fn end_line(rt: &impl Print) {
+    words(rt, b"\n");
+}
+
+fn line(rt: &impl Print, name: &[u8], cents: u64) {
+    words(rt, name);
+    amount(rt, cents);
+    end_line(rt);
 }
 
 // A quota share.
@@ -73,43 +77,44 @@ fn loss(maximum: u64, amount: u64) -> Loss
 }
 
 // Shows what a treaty cedes of a loss after it took `taken` in the event; gives what it has then taken.
-fn cession(treaty: Treaty, taken: u64, loss: Loss) -> u64
+fn cession(rt: &impl Print, treaty: Treaty, taken: u64, loss: Loss) -> u64
     requires { TermsInRange treaty × LossInRange loss × (taken ≤ 10 ^ 15) }
     ensures { result ≤ taken + 10 ^ 13 }
 {
     let c = treaty.cede(taken, loss);
-    amount(c.ceded);
+    amount(rt, c.ceded);
     c.taken
 }
 
 // One loss of an event.
-fn alone(name: &[u8], treaty: Treaty, loss: Loss)
+fn alone(rt: &impl Print, name: &[u8], treaty: Treaty, loss: Loss)
     requires { TermsInRange treaty × LossInRange loss }
 {
-    io::write_all(STDOUT_FILENO, name);
-    cession(treaty, 0, loss);
-    end_line();
+    words(rt, name);
+    cession(rt, treaty, 0, loss);
+    end_line(rt);
 }
 
 // Three losses of one event in turn, and what the treaty took of them.
-fn in_turn(name: &[u8], treaty: Treaty, first: Loss, second: Loss, third: Loss)
+fn in_turn(rt: &impl Print, name: &[u8], treaty: Treaty, first: Loss, second: Loss, third: Loss)
     requires { TermsInRange treaty × LossInRange first × LossInRange second × LossInRange third }
 {
-    io::write_all(STDOUT_FILENO, name);
-    let one = cession(treaty, 0, first);
-    let two = cession(treaty, one, second);
-    let three = cession(treaty, two, third);
-    io::write_all(STDOUT_FILENO, b" taken");
-    amount(three);
-    end_line();
+    words(rt, name);
+    let one = cession(rt, treaty, 0, first);
+    let two = cession(rt, treaty, one, second);
+    let three = cession(rt, treaty, two, third);
+    words(rt, b" taken");
+    amount(rt, three);
+    end_line(rt);
 }
 
-fn quota_figures() {
-    alone(b"C1", quota(4000, 0, 0), loss(101, 101));
-    alone(b"half a cent", quota(5000, 0, 0), loss(101, 101));
-    alone(b"C2", quota(4000, 20000, 0), loss(25000, 10000));
-    alone(b"C3", quota(4000, 20000, 0), loss(20000, 10000));
+fn quota_figures(rt: &impl Print) {
+    alone(rt, b"C1", quota(4000, 0, 0), loss(101, 101));
+    alone(rt, b"half a cent", quota(5000, 0, 0), loss(101, 101));
+    alone(rt, b"C2", quota(4000, 20000, 0), loss(25000, 10000));
+    alone(rt, b"C3", quota(4000, 20000, 0), loss(20000, 10000));
     in_turn(
+        rt,
         b"C4",
         quota(4000, 0, 15000),
         loss(10000, 10000),
@@ -117,6 +122,7 @@ fn quota_figures() {
         loss(10000, 10000),
     );
     in_turn(
+        rt,
         b"C4 with limit 5000",
         quota(4000, 0, 5000),
         loss(10000, 10000),
@@ -124,6 +130,7 @@ fn quota_figures() {
         loss(10000, 10000),
     );
     in_turn(
+        rt,
         b"quota with limit 5000",
         quota(4000, 0, 5000),
         loss(10000, 10000),
@@ -132,12 +139,13 @@ fn quota_figures() {
     );
 }
 
-fn surplus_figures() {
-    alone(b"C5", surplus(0), loss(10000, 10000));
-    alone(b"C6", surplus(0), loss(10001, 10001));
-    alone(b"C7", surplus(0), loss(40000, 8000));
-    alone(b"C8", surplus(0), loss(50000, 8000));
+fn surplus_figures(rt: &impl Print) {
+    alone(rt, b"C5", surplus(0), loss(10000, 10000));
+    alone(rt, b"C6", surplus(0), loss(10001, 10001));
+    alone(rt, b"C7", surplus(0), loss(40000, 8000));
+    alone(rt, b"C8", surplus(0), loss(50000, 8000));
     in_turn(
+        rt,
         b"surplus with limit 5000",
         surplus(5000),
         loss(40000, 8000),
@@ -181,9 +189,9 @@ fn plain(a: u64, l: u64, d: u64, s: u64) -> Layer
     layer(a, l, d, 0, 0, 0, 0, 0, s, 0)
 }
 
-fn brought(name: &[u8], layer: Layer, subject: u64) {
+fn brought(rt: &impl Print, name: &[u8], layer: Layer, subject: u64) {
     let loss = layer.terms.brings(subject);
-    line(name, loss.cents());
+    line(rt, name, loss.cents());
 }
 
 // Nothing recovered or due yet, on a day of this share.
@@ -198,58 +206,61 @@ fn nothing(share: u64) -> Sums
 }
 
 // The record after a subject amount, whose recovery is shown. Without (time) the day's share does not matter.
-fn recovery(layer: Layer, subject: u64) -> Layer
+fn recovery(rt: &impl Print, layer: Layer, subject: u64) -> Layer
     requires { Sound layer }
     ensures { Sound result }
 {
     let borne = layer.bear(subject, nothing(0));
     let sums = borne.sums;
-    amount(sums.recovered.cents());
+    amount(rt, sums.recovered.cents());
     borne.layer
 }
 
 // The year's figures: deductible left, cover left, recovered, premium.
-fn year(layer: Layer)
+fn year(rt: &impl Print, layer: Layer)
     requires { Sound layer }
 {
-    amount(layer.deductible_left().cents());
-    amount(layer.cover_left().cents());
-    amount(layer.recovered().cents());
-    amount(layer.premium().cents());
+    amount(rt, layer.deductible_left().cents());
+    amount(rt, layer.cover_left().cents());
+    amount(rt, layer.recovered().cents());
+    amount(rt, layer.premium().cents());
 }
 
 // The recoveries of subject amounts, in turn, and the year's figures after them.
-fn recoveries(name: &[u8], layer: Layer, subjects: &[u64])
+fn recoveries(rt: &impl Print, name: &[u8], layer: Layer, subjects: &[u64])
     requires { Sound layer }
 {
-    io::write_all(STDOUT_FILENO, name);
+    words(rt, name);
     let mut now = layer;
     let mut i = 0;
     while i < subjects.len() {
-        now = recovery(now, subjects[i]);
+        now = recovery(rt, now, subjects[i]);
         i += 1;
     }
-    io::write_all(STDOUT_FILENO, b" year");
-    year(now);
-    end_line();
+    words(rt, b" year");
+    year(rt, now);
+    end_line(rt);
 }
 
-fn layer_figures() {
-    brought(b"L1 at 50", plain(50, 100, 0, 10000), 50);
-    brought(b"L1 at 51", plain(50, 100, 0, 10000), 51);
-    recoveries(b"L2", plain(0, 100, 0, 5000), &[1, 1]);
-    recoveries(b"placed 3333", plain(0, 100, 0, 3333), &[1, 1, 1, 1, 1]);
+fn layer_figures(rt: &impl Print) {
+    brought(rt, b"L1 at 50", plain(50, 100, 0, 10000), 50);
+    brought(rt, b"L1 at 51", plain(50, 100, 0, 10000), 51);
+    recoveries(rt, b"L2", plain(0, 100, 0, 5000), &[1, 1]);
+    recoveries(rt, b"placed 3333", plain(0, 100, 0, 3333), &[1, 1, 1, 1, 1]);
     recoveries(
+        rt,
         b"L3 used 150",
         layer(0, 100, 0, 1, 1000, 10000, 0, 0, 10000, 0),
         &[100, 50],
     );
     recoveries(
+        rt,
         b"L3 used 200",
         layer(0, 100, 0, 1, 1000, 10000, 0, 0, 10000, 0),
         &[100, 50, 50],
     );
     recoveries(
+        rt,
         b"L4",
         layer(500000, 500000, 1000000, 1, 0, 0, 0, 0, 10000, 0),
         &[750000, 2000000, 1000000, 250000, 1000000],
@@ -278,21 +289,36 @@ fn three_rates() -> Layer
 }
 
 // The premium at the ends of slices and inside them.
-fn rate_figures() {
-    recoveries(b"first free, used 100", first_free(), &[100]);
-    recoveries(b"first free, used 150", first_free(), &[100, 50]);
-    recoveries(b"first free, used 200", first_free(), &[100, 50, 50]);
-    recoveries(b"first free, used 300", first_free(), &[100, 100, 100]);
-    recoveries(b"second free, used 50", second_free(), &[50]);
-    recoveries(b"second free, used 100", second_free(), &[50, 50]);
-    recoveries(b"second free, used 300", second_free(), &[100, 100, 100]);
-    recoveries(b"three rates, used 99", three_rates(), &[99]);
-    recoveries(b"three rates, used 100", three_rates(), &[99, 1]);
-    recoveries(b"three rates, used 101", three_rates(), &[100, 1]);
-    recoveries(b"three rates, used 200", three_rates(), &[100, 1, 99]);
-    recoveries(b"three rates, used 299", three_rates(), &[100, 99, 100]);
-    recoveries(b"three rates, used 300", three_rates(), &[100, 100, 100]);
-    recoveries(b"three rates, used 301", three_rates(), &[100, 100, 100, 1]);
+fn rate_figures(rt: &impl Print) {
+    recoveries(rt, b"first free, used 100", first_free(), &[100]);
+    recoveries(rt, b"first free, used 150", first_free(), &[100, 50]);
+    recoveries(rt, b"first free, used 200", first_free(), &[100, 50, 50]);
+    recoveries(rt, b"first free, used 300", first_free(), &[100, 100, 100]);
+    recoveries(rt, b"second free, used 50", second_free(), &[50]);
+    recoveries(rt, b"second free, used 100", second_free(), &[50, 50]);
+    recoveries(
+        rt,
+        b"second free, used 300",
+        second_free(),
+        &[100, 100, 100],
+    );
+    recoveries(rt, b"three rates, used 99", three_rates(), &[99]);
+    recoveries(rt, b"three rates, used 100", three_rates(), &[99, 1]);
+    recoveries(rt, b"three rates, used 101", three_rates(), &[100, 1]);
+    recoveries(rt, b"three rates, used 200", three_rates(), &[100, 1, 99]);
+    recoveries(rt, b"three rates, used 299", three_rates(), &[100, 99, 100]);
+    recoveries(
+        rt,
+        b"three rates, used 300",
+        three_rates(),
+        &[100, 100, 100],
+    );
+    recoveries(
+        rt,
+        b"three rates, used 301",
+        three_rates(),
+        &[100, 100, 100, 1],
+    );
 }
 
 // The built-in share of a day.
@@ -304,30 +330,30 @@ fn share(day: u64) -> u64
 }
 
 // The record after a subject amount on a day, whose premium is shown.
-fn premium(layer: Layer, subject: u64, day: u64) -> Layer
+fn premium(rt: &impl Print, layer: Layer, subject: u64, day: u64) -> Layer
     requires { Sound layer }
     ensures { Sound result }
 {
     let borne = layer.bear(subject, nothing(share(day)));
     let sums = borne.sums;
-    amount(sums.premium.cents());
+    amount(rt, sums.premium.cents());
     borne.layer
 }
 
 // The premiums of a subject amount on days, in turn, and the year's figures after them.
-fn premiums(name: &[u8], layer: Layer, subject: u64, days: &[u64])
+fn premiums(rt: &impl Print, name: &[u8], layer: Layer, subject: u64, days: &[u64])
     requires { Sound layer }
 {
-    io::write_all(STDOUT_FILENO, name);
+    words(rt, name);
     let mut now = layer;
     let mut i = 0;
     while i < days.len() {
-        now = premium(now, subject, days[i]);
+        now = premium(rt, now, subject, days[i]);
         i += 1;
     }
-    io::write_all(STDOUT_FILENO, b" year");
-    year(now);
-    end_line();
+    words(rt, b" year");
+    year(rt, now);
+    end_line(rt);
 }
 
 // A layer with (time), of which half is used by 500,000, at 182,500.
@@ -337,38 +363,44 @@ fn by_time() -> Layer
     layer(0, 1000000, 0, 1, 365000, 10000, 0, 0, 10000, 1)
 }
 
-fn time_figures() {
-    premiums(b"time, day 1", by_time(), 500000, &[1]);
-    premiums(b"time, day 184", by_time(), 500000, &[184]);
-    premiums(b"time, day 366", by_time(), 500000, &[366]);
-    premiums(b"time, days 100 and 200", by_time(), 500000, &[100, 200]);
-    premiums(b"time, at once on day 100", by_time(), 1000000, &[100]);
-    premiums(b"time, at once on day 184", by_time(), 1000000, &[184]);
+fn time_figures(rt: &impl Print) {
+    premiums(rt, b"time, day 1", by_time(), 500000, &[1]);
+    premiums(rt, b"time, day 184", by_time(), 500000, &[184]);
+    premiums(rt, b"time, day 366", by_time(), 500000, &[366]);
+    premiums(
+        rt,
+        b"time, days 100 and 200",
+        by_time(),
+        500000,
+        &[100, 200],
+    );
+    premiums(rt, b"time, at once on day 100", by_time(), 1000000, &[100]);
+    premiums(rt, b"time, at once on day 184", by_time(), 1000000, &[184]);
 }
 
 // Whether shares are a scale: 1 for yes, 0 for no.
-fn tested(name: &[u8], shares: &[u64]) {
+fn tested(rt: &impl Print, name: &[u8], shares: &[u64]) {
     if scale::passes(shares) {
-        line(name, 1);
+        line(rt, name, 1);
     } else {
-        line(name, 0);
+        line(rt, name, 0);
     }
 }
 
 // 7,201 on every day, and one day changed at a time.
-fn scale_figures() {
+fn scale_figures(rt: &impl Print) {
     let mut shares = [7201u64; 367];
-    tested(b"scale of 365 days", &shares[..365]);
-    tested(b"scale of 366 days", &shares[..366]);
-    tested(b"scale of 367 days", &shares);
+    tested(rt, b"scale of 365 days", &shares[..365]);
+    tested(rt, b"scale of 366 days", &shares[..366]);
+    tested(rt, b"scale of 367 days", &shares);
     shares[365] = 7202;
-    tested(b"scale that rises on the last day", &shares[..366]);
+    tested(rt, b"scale that rises on the last day", &shares[..366]);
     shares[365] = 3333;
-    tested(b"scale that falls on the last day", &shares[..366]);
+    tested(rt, b"scale that falls on the last day", &shares[..366]);
     shares[0] = 10000;
-    tested(b"scale that begins with the whole", &shares[..366]);
+    tested(rt, b"scale that begins with the whole", &shares[..366]);
     shares[0] = 10001;
-    tested(b"scale that begins above the whole", &shares[..366]);
+    tested(rt, b"scale that begins above the whole", &shares[..366]);
 }
 
 // The catastrophe tier of H1: its layers stand in the first three places.
@@ -385,21 +417,21 @@ fn cat_layers() -> [Layer; tier::PLACES]
 }
 
 // One subject to every layer of a tier: recoveries and premiums, added.
-fn tier_figures() {
+fn tier_figures(rt: &impl Print) {
     let borne = tier::bear_first(cat_layers(), 3, &[350000000], nothing(0));
     let sums = borne.sums;
-    io::write_all(STDOUT_FILENO, b"H1 tier");
-    amount(sums.recovered.cents());
-    amount(sums.premium.cents());
-    end_line();
+    words(rt, b"H1 tier");
+    amount(rt, sums.recovered.cents());
+    amount(rt, sums.premium.cents());
+    end_line(rt);
 }
 
-fn main() {
-    quota_figures();
-    surplus_figures();
-    layer_figures();
-    rate_figures();
-    time_figures();
-    scale_figures();
-    tier_figures();
+fn main(rt: HostRuntime) {
+    quota_figures(&rt);
+    surplus_figures(&rt);
+    layer_figures(&rt);
+    rate_figures(&rt);
+    time_figures(&rt);
+    scale_figures(&rt);
+    tier_figures(&rt);
 }

@@ -32,11 +32,11 @@ fn changed(bytes: &[u8]) -> u64 {
 }
 
 // Shows as many bytes as a success says that it wrote.
-fn statement(answer: Answer, bytes: &[u8]) {
+fn statement(rt: &impl Print, answer: Answer, bytes: &[u8]) {
     if answer.refusal == 0 {
         let end = answer.number as usize;
         if end <= bytes.len() {
-            words(&bytes[..end]);
+            words(rt, &bytes[..end]);
         }
     }
 }
@@ -44,6 +44,7 @@ fn statement(answer: Answer, bytes: &[u8]) {
 // Runs a text with the first `room` of the bytes lent, shows what the run answers and leaves, and returns the standing
 // after it.
 fn ran(
+    rt: &impl Print,
     programme: Programme,
     lent: Standing,
     events: &[u8],
@@ -55,14 +56,14 @@ fn ran(
     let ran = run::run(programme, lent, events, &mut bytes[..room]);
     let answer = ran.answer;
     let after = ran.standing;
-    words(b" ran");
-    number(answer.refusal);
-    number(answer.number);
-    words(b" changed");
-    number(changed(bytes));
-    show::standing(after);
-    words(b"\n");
-    statement(answer, bytes);
+    words(rt, b" ran");
+    number(rt, answer.refusal);
+    number(rt, answer.number);
+    words(rt, b" changed");
+    number(rt, changed(bytes));
+    show::standing(rt, after);
+    words(rt, b"\n");
+    statement(rt, answer, bytes);
     after
 }
 
@@ -124,12 +125,19 @@ fn size_of(n: u64) -> usize
 
 // Runs a text under a programme from a standing, with a buffer of `room` bytes. Where `size` is not 0 the text is
 // repeated up to that size.
-pub fn case(programme: Programme, lent: Standing, room: u64, size: u64, events: &[u8]) -> Standing {
+pub fn case(
+    rt: &impl Print,
+    programme: Programme,
+    lent: Standing,
+    room: u64,
+    size: u64,
+    events: &[u8],
+) -> Standing {
     let mut bytes = lent_bytes();
     if size == 0 {
-        return ran(programme, lent, events, size_of(room), &mut bytes);
+        return ran(rt, programme, lent, events, size_of(room), &mut bytes);
     }
     let text = repeated(events);
     let end = size_of(size);
-    ran(programme, lent, &text[..end], size_of(room), &mut bytes)
+    ran(rt, programme, lent, &text[..end], size_of(room), &mut bytes)
 }

@@ -75,6 +75,7 @@ fn lent(field: &[u8], opened: Standing, before: Standing) -> Standing {
 
 // Opens a year, runs the case, shows both, and returns the standing after it.
 fn tried(
+    rt: &impl Print,
     name: &[u8],
     table: &[u8],
     standing: &[u8],
@@ -87,11 +88,12 @@ fn tried(
     let programme = marked(reading.programme, v[2]);
     let opening = standings::open(programme);
     let opened = opening.standing;
-    words(name);
-    words(b": opened");
-    number(opening.refusal);
-    number(opening.number);
+    words(rt, name);
+    words(rt, b": opened");
+    number(rt, opening.refusal);
+    number(rt, opening.number);
     case(
+        rt,
         programme,
         lent(standing, opened, before),
         v[0],
@@ -101,7 +103,7 @@ fn tried(
 }
 
 // Tries a case by its fields.
-fn fields(case: &[u8], before: Standing) -> Standing {
+fn fields(rt: &impl Print, case: &[u8], before: Standing) -> Standing {
     let name_end = field_end(case, 0);
     let table = after(case, name_end);
     let table_end = field_end(case, table);
@@ -111,6 +113,7 @@ fn fields(case: &[u8], before: Standing) -> Standing {
     let sizes_end = field_end(case, sizes);
     let events = after(case, sizes_end);
     tried(
+        rt,
         &case[..name_end],
         &case[table..table_end],
         &case[lent..lent_end],
@@ -121,7 +124,7 @@ fn fields(case: &[u8], before: Standing) -> Standing {
 }
 
 // Tries the cases of a list in turn.
-pub fn cases(list: &[u8]) {
+pub fn cases(rt: &impl Print, list: &[u8]) {
     let mut standing = standings::fresh();
     let mut at: usize = 0;
     while at < list.len() {
@@ -129,7 +132,7 @@ pub fn cases(list: &[u8]) {
         if end == list.len() {
             return;
         }
-        standing = fields(&list[at..end], standing);
+        standing = fields(rt, &list[at..end], standing);
         at = end + 1;
     }
 }

@@ -1,8 +1,9 @@
 // Bytes that no table text has: each makes its line no form. The other texts are on standard input.
 use crate::list;
 
-fn tabs_and_returns() {
+fn tabs_and_returns(rt: &impl Print) {
     list::cases(
+        rt,
         b"tab for a space|(quota\t3 (cede 3333) (capacity 7) (event 9))\n|\
         tab in an item|(quota 3 (cede\t3333) (capacity 7) (event 9))\n|\
         tab after the line|(quota 3 (cede 3333) (capacity 7) (event 9))\t\n|\
@@ -12,8 +13,9 @@ fn tabs_and_returns() {
     );
 }
 
-fn nul_bytes() {
+fn nul_bytes(rt: &impl Print) {
     list::cases(
+        rt,
         b"NUL for a space|(quota 3\0(cede 3333) (capacity 7) (event 9))\n|\
         NUL first|\0(quota 3 (cede 3333) (capacity 7) (event 9))\n|\
         NUL before the line feed|(quota 3 (cede 3333) (capacity 7) (event 9))\0\n|\
@@ -23,8 +25,9 @@ fn nul_bytes() {
     );
 }
 
-fn above_127() {
+fn above_127(rt: &impl Print) {
     list::cases(
+        rt,
         b"byte 128 after a digit|(quota 3 (cede 3333\x80) (capacity 7) (event 9))\n|\
         digit 3 with the top bit|(quota \xb3 (cede 3333) (capacity 7) (event 9))\n|\
         bracket with the top bit|\xa8quota 3 (cede 3333) (capacity 7) (event 9))\n|\
@@ -36,8 +39,8 @@ fn above_127() {
     );
 }
 
-pub fn cases() {
-    tabs_and_returns();
-    nul_bytes();
-    above_127();
+pub fn cases(rt: &impl Print) {
+    tabs_and_returns(rt);
+    nul_bytes(rt);
+    above_127(rt);
 }

@@ -19,7 +19,7 @@ fn begun(table: &[u8], byte: u8) -> [u8; 8193]
 }
 
 // A text that begins with a table and goes on with a task's byte up to its size.
-pub fn filled(name: &[u8], table: &[u8], task: Task) {
+pub fn filled(rt: &impl Print, name: &[u8], table: &[u8], task: Task) {
     let v = task.numbers;
     let byte = v[0];
     let size = v[1] as usize;
@@ -33,5 +33,5 @@ pub fn filled(name: &[u8], table: &[u8], task: Task) {
         return;
     }
     let text = begun(table, byte as u8);
-    reading(name, &text[..size]);
+    reading(rt, name, &text[..size]);
 }

@@ -14,22 +14,22 @@ use crate::write::{answer, back, sizes};
 use text::line;
 
 // Does what stands after a case's semicolon.
-fn tasked(name: &[u8], tasks: &[u8], text: &[u8]) {
+fn tasked(rt: &impl Print, name: &[u8], tasks: &[u8], text: &[u8]) {
     let end = line::place_of(tasks, 0, b';');
     let first = task::read(&tasks[..end]);
     let second = task::read(&tasks[end..]);
     let letter = first.letter;
     let then = second.letter;
     match letter {
-        b'w' => back(name, text, first),
-        b'f' => filled(name, text, first),
+        b'w' => back(rt, name, text, first),
+        b'f' => filled(rt, name, text, first),
         _ => {
             let programme = changed(base(), first);
             match then {
-                b'w' => sizes(name, programme, text, second),
+                b'w' => sizes(rt, name, programme, text, second),
                 _ => {
-                    words(name);
-                    answer(changed(programme, second), text, 1700);
+                    words(rt, name);
+                    answer(rt, changed(programme, second), text, 1700);
                 }
             }
         }
@@ -37,17 +37,17 @@ fn tasked(name: &[u8], tasks: &[u8], text: &[u8]) {
 }
 
 // A case, by its head.
-fn case(head: &[u8], text: &[u8]) {
+fn case(rt: &impl Print, head: &[u8], text: &[u8]) {
     let end = line::place_of(head, 0, b';');
     if end == head.len() {
-        reading(head, text);
+        reading(rt, head, text);
     } else {
-        tasked(&head[..end], &head[end + 1..], text);
+        tasked(rt, &head[..end], &head[end + 1..], text);
     }
 }
 
 // Shows the cases of a list from a place on, up to its end or to a tilde, and returns the place after it.
-pub fn cases(list: &[u8], from: usize) -> usize
+pub fn cases(rt: &impl Print, list: &[u8], from: usize) -> usize
     requires { from ≤ length list.now }
     ensures { result ≤ length list.now }
 {
@@ -62,7 +62,7 @@ pub fn cases(list: &[u8], from: usize) -> usize
         }
         let start = middle + 1;
         let end = line::place_of(list, start, b'|');
-        case(&list[at..middle], &list[start..end]);
+        case(rt, &list[at..middle], &list[start..end]);
         if end == list.len() {
             return end;
         }

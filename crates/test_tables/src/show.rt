@@ -2,40 +2,44 @@
 // joins the bits of all numbers in the other places and of all rates that are not used, so that 0 says that each of
 // them is 0. A refused text has no place in use, so its `rest` is that of every place.
 use layer::terms::{RATES, Terms};
-use libc::STDOUT_FILENO;
 use programme::contract::{Layers, Treaties};
 use treaty::Treaty;
 
-pub fn words(text: &[u8]) {
-    io::write_all(STDOUT_FILENO, text);
+// What cannot be written is let go: the program goes on.
+pub fn words(rt: &impl Print, text: &[u8]) {
+    let _ = rt.write_all(text);
 }
 
-pub fn number(n: u64) {
-    words(b" ");
-    io::print_decimal(STDOUT_FILENO, n);
+fn decimal(rt: &impl Print, n: u64) {
+    let _ = rt.print(n);
+}
+
+pub fn number(rt: &impl Print, n: u64) {
+    words(rt, b" ");
+    decimal(rt, n);
 }
 
 // [kind T cede capacity retain lines event]
-fn treaty_place(t: Treaty) {
-    words(b" [");
-    io::print_decimal(STDOUT_FILENO, t.kind);
-    number(t.number);
-    number(t.cede);
-    number(t.capacity);
-    number(t.retention);
-    number(t.lines);
-    number(t.limit);
-    words(b"]");
+fn treaty_place(rt: &impl Print, t: Treaty) {
+    words(rt, b" [");
+    decimal(rt, t.kind);
+    number(rt, t.number);
+    number(rt, t.cede);
+    number(rt, t.capacity);
+    number(rt, t.retention);
+    number(rt, t.lines);
+    number(rt, t.limit);
+    words(rt, b"]");
 }
 
 // Shows the first rates, as many as are used, and returns the bits of the others.
-fn rate_places(rates: [u64; RATES], used: u64) -> u64 {
+fn rate_places(rt: &impl Print, rates: [u64; RATES], used: u64) -> u64 {
     let mut rest: u64 = 0;
     let mut i: usize = 0;
     while i < RATES {
         let rate = rates[i];
         if (i as u64) < used {
-            number(rate);
+            number(rt, rate);
         } else {
             rest = rest | rate;
         }
@@ -46,21 +50,21 @@ fn rate_places(rates: [u64; RATES], used: u64) -> u64 {
 
 // [attachment limit deduct K premium rates placed], and a time that is not 0 after its word; returns the bits of the
 // rates that are not used.
-fn layer_place(l: Terms) -> u64 {
-    words(b" [");
-    io::print_decimal(STDOUT_FILENO, l.attachment);
-    number(l.limit);
-    number(l.deductible);
-    number(l.reinstatements);
-    number(l.premium);
+fn layer_place(rt: &impl Print, l: Terms) -> u64 {
+    words(rt, b" [");
+    decimal(rt, l.attachment);
+    number(rt, l.limit);
+    number(rt, l.deductible);
+    number(rt, l.reinstatements);
+    number(rt, l.premium);
     let rates = l.rates;
-    let rest = rate_places(rates, l.reinstatements);
-    number(l.placed);
+    let rest = rate_places(rt, rates, l.reinstatements);
+    number(rt, l.placed);
     if l.time != 0 {
-        words(b" time");
-        number(l.time);
+        words(rt, b" time");
+        number(rt, l.time);
     }
-    words(b"]");
+    words(rt, b"]");
     rest
 }
 
@@ -68,21 +72,21 @@ fn treaty_bits(t: Treaty) -> u64 {
     t.kind | t.number | t.cede | t.capacity | t.retention | t.lines | t.limit
 }
 
-fn layer_bits(l: Terms) -> u64 {
+fn layer_bits(rt: &impl Print, l: Terms) -> u64 {
     let rates = l.rates;
-    let rest = rate_places(rates, 0);
+    let rest = rate_places(rt, rates, 0);
     l.attachment | l.limit | l.deductible | l.reinstatements | l.premium | l.placed | rest | l.time
 }
 
 // Shows the treaties in use and returns the bits of the other places.
-fn treaty_places(treaties: Treaties) -> u64 {
+fn treaty_places(rt: &impl Print, treaties: Treaties) -> u64 {
     let count = treaties.count;
     let mut rest: u64 = 0;
     let mut i: usize = 0;
     while i < 8 {
         let t = treaties.places[i];
         if i < count {
-            treaty_place(t);
+            treaty_place(rt, t);
         } else {
             rest = rest | treaty_bits(t);
         }
@@ -92,16 +96,16 @@ fn treaty_places(treaties: Treaties) -> u64 {
 }
 
 // The same for one tier.
-fn layer_places(layers: Layers) -> u64 {
+fn layer_places(rt: &impl Print, layers: Layers) -> u64 {
     let count = layers.count;
     let mut rest: u64 = 0;
     let mut i: usize = 0;
     while i < 8 {
         let l = layers.places[i];
         if i < count {
-            rest = rest | layer_place(l);
+            rest = rest | layer_place(rt, l);
         } else {
-            rest = rest | layer_bits(l);
+            rest = rest | layer_bits(rt, l);
         }
         i += 1;
     }
@@ -109,24 +113,24 @@ fn layer_places(layers: Layers) -> u64 {
 }
 
 // Reads a text and shows what reading answers.
-pub fn reading(name: &[u8], text: &[u8]) {
+pub fn reading(rt: &impl Print, name: &[u8], text: &[u8]) {
     let reading = table::read(text);
     let programme = reading.programme;
     let treaties = programme.treaties;
     let risk = programme.risk;
     let cat = programme.cat;
-    words(name);
-    words(b":");
-    number(reading.refusal);
-    number(reading.line);
-    words(b" counts");
-    number(treaties.count as u64);
-    number(risk.count as u64);
-    number(cat.count as u64);
-    let first = treaty_places(treaties);
-    let second = layer_places(risk);
-    let third = layer_places(cat);
-    words(b" rest");
-    number(first | second | third);
-    words(b"\n");
+    words(rt, name);
+    words(rt, b":");
+    number(rt, reading.refusal);
+    number(rt, reading.line);
+    words(rt, b" counts");
+    number(rt, treaties.count as u64);
+    number(rt, risk.count as u64);
+    number(rt, cat.count as u64);
+    let first = treaty_places(rt, treaties);
+    let second = layer_places(rt, risk);
+    let third = layer_places(rt, cat);
+    words(rt, b" rest");
+    number(rt, first | second | third);
+    words(rt, b"\n");
 }

@@ -34,49 +34,49 @@ fn as_lent(bytes: &[u8; 1700], from: usize) -> usize {
 }
 
 // Writes a programme whose text is typed into a buffer of a size, and shows what writing answers.
-pub fn answer(programme: Programme, text: &[u8], size: usize)
+pub fn answer(rt: &impl Print, programme: Programme, text: &[u8], size: usize)
     requires { size ≤ 1700 }
 {
     let mut bytes = [b'#'; 1700];
     let answer = table::write(programme, &mut bytes[..size]);
-    words(b":");
-    number(answer.refusal);
-    number(answer.number);
+    words(rt, b":");
+    number(rt, answer.refusal);
+    number(rt, answer.number);
     let front = same(&bytes, text);
-    words(b" same");
-    number(front as u64);
-    words(b" as lent to");
-    number(as_lent(&bytes, front) as u64);
-    words(b"\n");
+    words(rt, b" same");
+    number(rt, front as u64);
+    words(rt, b" as lent to");
+    number(rt, as_lent(&bytes, front) as u64);
+    words(rt, b"\n");
 }
 
 // The same with its name and size, where there is a buffer of that size.
-fn sized(name: &[u8], programme: Programme, text: &[u8], size: u64) {
+fn sized(rt: &impl Print, name: &[u8], programme: Programme, text: &[u8], size: u64) {
     if size <= 1700 {
-        words(name);
-        words(b" in");
-        number(size);
-        answer(programme, text, size as usize);
+        words(rt, name);
+        words(rt, b" in");
+        number(rt, size);
+        answer(rt, programme, text, size as usize);
     }
 }
 
 // Writes a programme into a buffer of each of a task's sizes.
-pub fn sizes(name: &[u8], programme: Programme, text: &[u8], task: Task)
+pub fn sizes(rt: &impl Print, name: &[u8], programme: Programme, text: &[u8], task: Task)
     requires { task.count ≤ 8 }
 {
     let count = task.count;
     let mut i: usize = 0;
     while i < count {
-        sized(name, programme, text, task.numbers[i]);
+        sized(rt, name, programme, text, task.numbers[i]);
         i += 1;
     }
 }
 
 // Reads a text and writes what it reads to.
-pub fn back(name: &[u8], text: &[u8], task: Task)
+pub fn back(rt: &impl Print, name: &[u8], text: &[u8], task: Task)
     requires { task.count ≤ 8 }
 {
     let reading = table::read(text);
     let programme = reading.programme;
-    sizes(name, programme, text, task);
+    sizes(rt, name, programme, text, task);
 }
