@@ -1,0 +1,8 @@
+-- `client::run_overcharged` meets its contract.
+-- Assumes nothing.
+use borrow.Author.Rules.{rules}
+use Rattle.client.proofs.TimedRun as law
+use Rattle.client.proofs.run_overcharged.Goals as goal
+
+pub returns : goal.returns
+returns c = (search law.overcharged-after, search law.overcharged-bytes)
