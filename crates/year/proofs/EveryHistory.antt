@@ -118,6 +118,10 @@ nothing-due t = by (is_timed t) (ap (premium_of t) (nothing-spent t) ∙ no-prem
     by true e = refl
     by false e = e
 
+-- a fact of each layer of the ledger, of each entry
+pub each_cut : (P : Layer → Type 0) (es : List Entry) → Each P (cuts es) → Each (λ (e : Entry). P (cut e)) es
+each_cut P es h = each_mapped P cut es h
+
 module _ (shares : List ℕ) (p : Programme) where
   abbrev treaties : List Treaty
   treaties = (contracts_in p).treaties
@@ -254,9 +258,9 @@ module _ (shares : List ℕ) (p : Programme) where
   timed-after : (n : TierName) (h : List Call)
       → Each (λ (e : Entry). e.timed ≤ timed_most e.terms (spent_by e)) (entries n (events_of_history shares p h))
   timed-after risk h =
-      each_mapped WithinPremium cut (entries risk (events_of_history shares p h)) (history-under shares p h).risk.timed
+      each_cut WithinPremium (entries risk (events_of_history shares p h)) (history-under shares p h).risk.timed
   timed-after cat h =
-      each_mapped WithinPremium cut (entries cat (events_of_history shares p h)) (history-under shares p h).cat.timed
+      each_cut WithinPremium (entries cat (events_of_history shares p h)) (history-under shares p h).cat.timed
 
   -- for every programme, every list of shares and every history
   pub every-history : (h : List Call) → Adds shares p h

@@ -10,7 +10,6 @@ use native.Mathlib.Omega.{arith}
 use lib.ListN.{get_or, replicate}
 use Rattle.lists.specs.Sums.{total}
 use Rattle.lists.specs.Each.{Each}
-use Rattle.lists.proofs.Each.{each_mapped}
 use Rattle.arith.specs.Round.{rounded}
 use Rattle.arith.proofs.Rounding.{rounded-zero}
 use Rattle.treaty.specs.declared.Treaty.{Treaty}
@@ -30,7 +29,7 @@ use Rattle.year.specs.History.{Call, statements_of, events_of_history, ledger_of
 use Rattle.year.specs.History.{summed, premium_shown, last_shown, premiums_in}
 use Rattle.year.proofs.Cutting.{cut, cuts, events-cut}
 use Rattle.year.proofs.Following.{year_by}
-use Rattle.year.proofs.EveryHistory.{none_shown, every-history}
+use Rattle.year.proofs.EveryHistory.{none_shown, each_cut, every-history}
 
 -- the scale of which every share is 0
 unfoldable pub zero_shares : List ℕ
@@ -115,14 +114,14 @@ module _ (p : Programme) (h : List Call) where
 
   -- for every programme and every history no layer has a timed premium in the ledger
   pub nothing-charged : (n : TierName) → Each (λ (e : Entry). e.timed ≡ 0) (in_tier n (ledger_of_history zero_shares p h))
-  nothing-charged risk = each_mapped Unpaid cut (ledger_of_history zero_shares p h).risk unpaid_after.risk
-  nothing-charged cat = each_mapped Unpaid cut (ledger_of_history zero_shares p h).cat unpaid_after.cat
+  nothing-charged risk = each_cut Unpaid (ledger_of_history zero_shares p h).risk unpaid_after.risk
+  nothing-charged cat = each_cut Unpaid (ledger_of_history zero_shares p h).cat unpaid_after.cat
 
 -- a layer's premium where nothing is charged by time: 0 with (time), its amount premium without
-abbrev pub plain_premium : Entry → ℕ
-plain_premium e = cond (is_timed e.terms) 0 (premium_of e.terms (spent_by e))
+abbrev pub untimed_premium : Entry → ℕ
+untimed_premium e = cond (is_timed e.terms) 0 (premium_of e.terms (spent_by e))
 
-premiums-untimed : (es : List Entry) → Each (λ (e : Entry). e.timed ≡ 0) es → premiums_in es ≡ map plain_premium es
+premiums-untimed : (es : List Entry) → Each (λ (e : Entry). e.timed ≡ 0) es → premiums_in es ≡ map untimed_premium es
 unfolding year_premium
 premiums-untimed [] u = refl
 premiums-untimed (e ∷ es) u =
@@ -130,19 +129,19 @@ premiums-untimed (e ∷ es) u =
 
 module _ (p : Programme) (h : List Call) where
   ledger_untimed : (n : TierName) → premiums_in (in_tier n (ledger_of_history zero_shares p h))
-      ≡ map plain_premium (in_tier n (ledger_of_history zero_shares p h))
+      ≡ map untimed_premium (in_tier n (ledger_of_history zero_shares p h))
   ledger_untimed n = premiums-untimed (in_tier n (ledger_of_history zero_shares p h)) (nothing-charged p h n)
 
   -- that is what the last statement shows of it
   pub nothing-shown : (n : TierName)
       → last_shown (premium_shown n) (none_shown n p) (statements_of zero_shares p h)
-      ≡ map plain_premium (in_tier n (ledger_of_history zero_shares p h))
+      ≡ map untimed_premium (in_tier n (ledger_of_history zero_shares p h))
   nothing-shown n = (every-history zero_shares p h).premiums n ∙ ledger_untimed n
 
   -- and the premiums on the total lines, added, are those of all layers, added
   pub nothing-added : (summed (statements_of zero_shares p h)).premium
-      ≡ total (map plain_premium (ledger_of_history zero_shares p h).risk)
-      + total (map plain_premium (ledger_of_history zero_shares p h).cat)
+      ≡ total (map untimed_premium (ledger_of_history zero_shares p h).risk)
+      + total (map untimed_premium (ledger_of_history zero_shares p h).cat)
   nothing-added =
       (every-history zero_shares p h).premium
       ∙ (λ i. total (ledger_untimed risk i) + total (ledger_untimed cat i))
