@@ -224,17 +224,20 @@ pub fn outside<'a>(tier: impl Iterator<Item = &'a Layer>, subject: u64) -> u64 {
 /// Takes one subject amount through a tier on a day with such a time share. What the insurer keeps are the parts
 /// outside the bands and what it keeps inside each.
 pub fn through(tier: &mut [Account], subject: u64, share: u64) -> Borne {
-    let kept = outside(tier.iter().map(|account| account.layer), subject);
-    let mut borne = Borne { kept, ..Borne::default() };
+    let mut borne = Borne::default();
+    let mut reached = 0;
     for account in tier {
-        let loss = account.layer.brought(subject);
-        if loss == 0 {
+        let Layer { attachment, limit, .. } = *account.layer;
+        if subject <= attachment {
             break;
         }
-        let inside = account.bring(loss, share);
+        let end = subject.min(attachment + limit);
+        let inside = account.bring(end - attachment, share);
         borne.paid += inside.paid;
-        borne.kept += inside.kept;
+        borne.kept += attachment - reached + inside.kept;
         borne.premium += inside.premium;
+        reached = end;
     }
+    borne.kept += subject - reached;
     borne
 }

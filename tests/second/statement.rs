@@ -1,8 +1,8 @@
 //! A run of events that were read: event by event through treaties and layers, and the statement's text.
 
 use super::events::Event;
-use super::formulas::{accounts, through, Account, Offered};
-use super::table::{Layer, Programme};
+use super::formulas::{accounts, through, Account};
+use super::table::{Layer, Programme, MOST_TREATIES};
 use super::time::Scale;
 use super::Standing;
 
@@ -59,12 +59,16 @@ impl<'a> Run<'a> {
 
     fn event(&mut self, event: &Event) -> Amounts {
         let mut amounts = Amounts::default();
-        let mut offered = Offered::new(self.programme);
+        let mut offered = [0; MOST_TREATIES as usize];
         let mut subject = 0;
         let share = self.scale.share_of(event.day);
         for loss in &event.losses {
             let mut left = loss.amount;
-            if let Some((place, ceded)) = offered.ceded(loss) {
+            if let Some(place) = self.programme.treaty(loss.treaty) {
+                let treaty = &self.programme.treaties[place];
+                let before = treaty.taken(offered[place]);
+                offered[place] += treaty.offered(loss);
+                let ceded = treaty.taken(offered[place]) - before;
                 self.ceded[place] += ceded;
                 amounts.ceded += ceded;
                 left -= ceded;
@@ -180,13 +184,14 @@ impl Text {
     fn tier(&mut self, name: &str, tier: &[Account]) {
         for (account, place) in tier.iter().zip(1..) {
             let layer = account.layer;
+            let spent = layer.spent(account.sum);
             self.word("(layer ");
             self.word(name);
             self.word(" ");
             self.number(place);
             self.items(&[
-                ("deductible", layer.deductible_left(account.sum)),
-                ("cover", layer.cover_left(account.sum)),
+                ("deductible", layer.deductible.saturating_sub(spent)),
+                ("cover", layer.cap() - spent.max(layer.deductible)),
                 ("recovered", account.recovered),
                 ("premium", account.premium),
             ]);
