@@ -13,7 +13,7 @@ pub struct Filled {
 // Reads until the buffer is full, the text ends or a read fails.
 pub fn fill(file: &mut impl Read, buffer: &mut [u8]) -> Filled
     ensures within { result.size ≤ length buffer.new }
-    ensures front { length (take result.size buffer.new) ≡ result.size }
+    ensures front { result.size ≡ length (take result.size buffer.new) }
 {
     let mut size: usize = 0;
     while size < buffer.len() {
