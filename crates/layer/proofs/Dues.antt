@@ -14,7 +14,7 @@ use Rattle.layer.specs.declared.record.Layer.{Layer}
 use Rattle.layer.specs.Layer.{premium_of, layer_after, charge_of, is_timed, due_for, due_of, timed_part, timed_most}
 use Rattle.layer.specs.Layer.{layer_of, with_due, year_premium}
 use Rattle.layer.specs.Ranges.{InRange, Sound}
-use Rattle.layer.proofs.Premiums.{premium_mono, premium-le, charge_le, charge_exact}
+use Rattle.layer.proofs.Premiums.{premium_mono, premium-le, charge_exact}
 
 module _ (t : Terms) where
   -- nothing is due for nothing, at no share and at no time

@@ -8,8 +8,8 @@ use Prim.Native.Nat.{ℕ, ◌+◌, ◌-◌}
 use Rattle.layer.specs.declared.terms.Terms.{Terms}
 use Rattle.layer.specs.declared.record.Layer.{Layer}
 use Rattle.layer.specs.Layer.{layer_of, brought_by, cap_of, deductible_left_of, cover_left_of, placed_of, recovered_of}
-use Rattle.layer.specs.Layer.{recovery_of, recovery_by, after_subject, subject_on}
-use Rattle.layer.specs.Tier.{recoveries_by, left_by, layers_after, layers_on, layers_through}
+use Rattle.layer.specs.Layer.{recovery_of, recovery_by, after_subject}
+use Rattle.layer.specs.Tier.{recoveries_by, layers_after, layers_on, layers_through}
 use Rattle.layer.specs.Tier.{recoveries_through, left_through}
 
 -- terms without what premiums alone look at

@@ -5,7 +5,7 @@ use mathlib.Core.Bool.{false}
 use mathlib.Core.Path.{◌≡◌, refl, sym, ap, ◌∙◌}
 use mathlib.Core.List.{List, [], ◌∷◌, map, map-id, map-map}
 use Prim.Native.Nat.{ℕ, ◌+◌, ◌*◌, ◌≤◌}
-use native.Mathlib.Nat.{add-zero, add_assoc}
+use native.Mathlib.Nat.{add-zero}
 use native.Mathlib.Omega.{arith}
 use Rattle.lists.specs.Sums.{sum_of, total}
 use Rattle.lists.proofs.Sums.{sum-map, sum-add, sum-zero}
@@ -13,8 +13,8 @@ use Rattle.layer.specs.declared.terms.Terms.{Terms}
 use Rattle.layer.specs.declared.record.Borne.{Borne}
 use Rattle.layer.specs.declared.record.Layer.{Layer}
 use Rattle.layer.specs.declared.record.Sums.{Sums}
-use Rattle.layer.specs.Layer.{brought_by, cap_of, cut_at_cap, layer_of, layer_after, is_timed, with_due, timed_part}
-use Rattle.layer.specs.Layer.{recovered_since, charged_since, due_since, due_for, sums_of, in_turn}
+use Rattle.layer.specs.Layer.{brought_by, cap_of, cut_at_cap, layer_of, layer_after, is_timed, with_due}
+use Rattle.layer.specs.Layer.{recovered_since, charged_since, due_since, sums_of, in_turn}
 use Rattle.layer.specs.Layer.{recovery_of, charge_of, due_of, recoveries_of, charges_of, dues_of}
 use Rattle.layer.specs.Layer.{after_subject, subject_on, recovery_by, due_by, borne_with, borne_since, borne_by}
 use Rattle.layer.specs.Layer.{borne_through}
@@ -22,7 +22,7 @@ use Rattle.layer.specs.Tier.{layers_after, layers_on, layers_through, recoveries
 use Rattle.layer.specs.Ranges.{Sound}
 use Rattle.layer.proofs.Bounds.{recovered-le}
 use Rattle.layer.proofs.Premiums.{premium-le}
-use Rattle.layer.proofs.Dues.{due-plain, due_le_charge, timed-none, timed_adds, timed-plain}
+use Rattle.layer.proofs.Dues.{due-plain, due_le_charge, timed-none, timed_adds}
 use Rattle.layer.proofs.Records.{sound-after, sound-on}
 use Rattle.layer.proofs.Year.{recoveries_telescope, charges_telescope}
 

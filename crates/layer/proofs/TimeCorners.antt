@@ -8,7 +8,7 @@ use Rattle.layer.specs.declared.terms.Terms.{Terms}
 use Rattle.layer.specs.declared.record.Layer.{Layer}
 use Rattle.layer.specs.Layer.{terms_of, placed_of, recovered_of, rated_of, premium_of, layer_of, charge_of, recovery_of}
 use Rattle.layer.specs.Layer.{due_for, due_of, dues_of, timed_part, with_due, layer_on, timed_most, year_premium}
-use Rattle.layer.specs.Layer.{subject_on, borne_through}
+use Rattle.layer.specs.Layer.{borne_through}
 use Rattle.layer.specs.Tier.{layers_on, layers_through, dues_by, dues_through, sums_through}
 
 -- a limit of 1,000,000 wholly placed, with one reinstatement at 100% for a premium of 365,000, by time and not

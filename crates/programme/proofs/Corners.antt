@@ -13,7 +13,7 @@ use Rattle.layer.specs.Layer.{terms_of}
 use Rattle.programme.specs.declared.contract.Programme.{Programme}
 use Rattle.programme.specs.declared.contract.Kind.{Kind}
 use Rattle.programme.specs.declared.contract.Kind.TheVariants as kind
-use Rattle.programme.specs.Contract.{Contract, Proportional, Risk, Cat, contract_of, Contracts, no_contracts}
+use Rattle.programme.specs.Contract.{Proportional, Risk, Cat, contract_of, Contracts, no_contracts}
 use Rattle.programme.specs.Contract.{with_contract, contracts_in_order, programme_of, contracts_in}
 use Rattle.programme.specs.Ranges.{outside, treaty_outside, rates_outside, terms_outside}
 use Rattle.programme.specs.Ranges.{treaty_not_zero, terms_not_zero}

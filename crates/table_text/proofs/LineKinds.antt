@@ -15,7 +15,7 @@ use Rattle.programme.specs.declared.contract.Kind.TheVariants as kind
 use Rattle.programme.specs.Contract.{Contract, Proportional, Risk, Cat}
 use Rattle.table_text.specs.declared.LineRead.{LineRead}
 use Rattle.table_text.specs.declared.Form.TheVariants as form
-use Rattle.table_text.specs.Forms.{Form, Line, NoForm, form_read, quota_text, surplus_text, risk_text, cat_text}
+use Rattle.table_text.specs.Forms.{Form, NoForm, form_read, quota_text, surplus_text, risk_text, cat_text}
 use Rattle.table_text.specs.Forms.{layer_terms, form_if, quota_form, surplus_form, layer_form}
 use Rattle.table_text.specs.Forms.{kind_of, form_of_kind, form_of}
 

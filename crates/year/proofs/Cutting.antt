@@ -18,7 +18,6 @@ use Rattle.layer.proofs.Year.{cut_again}
 use Rattle.layer.proofs.PremiumApart.{left_paid}
 use Rattle.scale.specs.Scale.{share_on}
 use Rattle.events.specs.Event.{Event}
-use Rattle.year.specs.Tiers.{risk, cat}
 use Rattle.year.specs.Event.{Year, left_by_treaties, subject_of, event_after, year_after}
 use Rattle.year.specs.Ledger.{Entry, spent_by, loss_added, recovery_added, due_added, entered, Ledger}
 use Rattle.year.specs.Ledger.{losses_booked, booked}

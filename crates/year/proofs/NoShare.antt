@@ -27,7 +27,7 @@ use Rattle.year.specs.Event.{Year, left_by_treaties, subject_of, event_after, ye
 use Rattle.year.specs.Ledger.{Entry, spent_by, first_entry, first_ledger}
 use Rattle.year.specs.History.{Call, statements_of, events_of_history, ledger_of_history}
 use Rattle.year.specs.History.{summed, premium_shown, last_shown, premiums_in}
-use Rattle.year.proofs.Cutting.{cut, cuts, events-cut}
+use Rattle.year.proofs.Cutting.{cuts, events-cut}
 use Rattle.year.proofs.Following.{year_by}
 use Rattle.year.proofs.EveryHistory.{none_shown, each_cut, every-history}
 

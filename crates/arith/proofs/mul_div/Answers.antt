@@ -1,6 +1,6 @@
 -- `arith::mul_div` meets its contract.
 -- Assumes nothing.
-use Rattle.std.proofs.Common.{◌≡◌, ℕ, ◌*◌, ◌/◌, ◌%◌, ◌^◌, ◌≤◌, sym, ap, ◌∙◌, lt_of_lt_of_le, lt_of_le_of_lt, mod-lt, mul-le-mul_left, div-add-mod', zero-add, zero-mul, arith, lit≤, rules}
+use Rattle.std.proofs.Common.{◌≡◌, ℕ, ◌*◌, ◌/◌, ◌%◌, ◌^◌, ◌≤◌, sym, ap, ◌∙◌, lt_of_lt_of_le, lt_of_le_of_lt, mod-lt, mul-le-mul_left, div-add-mod', zero-add, zero-mul, arith, lit≤}
 use native.Mathlib.Nat.{div-le_of_le-mul}
 use Rattle.arith.specs.Round.{rounded}
 use Rattle.arith.specs.Ranges.{Wide}

@@ -1,6 +1,6 @@
 -- `arith::mul_div_word` meets its contract.
 -- Assumes nothing.
-use Rattle.std.proofs.Common.{◌-◌, ◌*◌, ◌^◌, ◌<◌, mul-le-mul, arith, rules}
+use Rattle.std.proofs.Common.{◌-◌, ◌*◌, ◌^◌, ◌<◌, mul-le-mul, arith}
 use Rattle.arith.proofs.Rounding.{half-added}
 use Rattle.arith.proofs.mul_div_word.Goals as goal
 use Rattle.arith.proofs.mul_div_word.Goals.{Start}

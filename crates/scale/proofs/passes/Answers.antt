@@ -1,8 +1,5 @@
 -- `scale::passes` meets its contract.
 -- Assumes nothing.
-use Prim.Native.Nat.{◌-◌}
-use lib.ListN.{length}
-use borrow.Author.Rules.{rules}
 use Rattle.scale.proofs.Passing as law
 use Rattle.scale.proofs.passes.Goals as goal
 

@@ -1,6 +1,5 @@
 -- `scale_text::numbers_of` meets its contract.
 -- Assumes nothing.
-use borrow.Author.Rules.{rules}
 use lib.Dec.{lit≤}
 use Rattle.text.specs.Template.{capital, holes}
 use Rattle.scale_text.proofs.numbers_of.Goals as goal

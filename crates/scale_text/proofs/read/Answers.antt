@@ -1,8 +1,5 @@
 -- `scale_text::read` meets its contract.
 -- Assumes nothing.
-use Prim.Native.Nat.{◌-◌}
-use lib.ListN.{length}
-use borrow.Author.Rules.{rules}
 use Rattle.scale_text.proofs.LinePass as law
 use Rattle.scale_text.proofs.read.Goals as goal
 

@@ -2,7 +2,6 @@
 -- Assumes nothing.
 use Prim.Native.Nat.{◌-◌}
 use lib.ListN.{length}
-use borrow.Author.Rules.{rules}
 use Rattle.scale_text.proofs.LinePass as law
 use Rattle.scale_text.proofs.read.Given as goal
 

@@ -1,6 +1,5 @@
 -- `scale_text::refused` meets its contract.
 -- Assumes nothing.
-use borrow.Author.Rules.{rules}
 use Rattle.scale_text.proofs.LinePass as law
 use Rattle.scale_text.proofs.refused.Goals as goal
 

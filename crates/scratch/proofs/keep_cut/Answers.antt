@@ -1,8 +1,5 @@
 -- `scratch::keep_cut` meets its contract.
 -- Assumes nothing.
-use Prim.Native.Nat.{◌-◌}
-use lib.ListN.{length}
-use borrow.Author.Rules.{rules}
 use Rattle.text.proofs.Copies as law
 use Rattle.scratch.proofs.keep_cut.Goals as goal
 

@@ -1,8 +1,5 @@
 -- `scratch::keep_within` meets its contract.
 -- Assumes nothing.
-use Prim.Native.Nat.{◌+◌, ◌-◌}
-use borrow.Author.Rules.{rules}
-use lib.ListN.{length}
 use Rattle.text.proofs.Copies as law
 use Rattle.scratch.proofs.keep_within.Goals as goal
 

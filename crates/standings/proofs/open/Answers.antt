@@ -1,6 +1,5 @@
 -- `standings::open` meets its contract.
 -- Assumes nothing.
-use borrow.Author.Rules.{rules}
 use Rattle.standings.proofs.Opening.{opened, not_opened}
 use Rattle.standings.proofs.open.Goals as goal
 

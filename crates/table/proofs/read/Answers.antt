@@ -1,6 +1,5 @@
 -- `table::read` meets its contract.
 -- Assumes nothing.
-use borrow.Author.Rules.{rules}
 use Rattle.table.proofs.LinePass.{too_long, not_long}
 use Rattle.table.proofs.read.Goals as goal
 

@@ -1,8 +1,5 @@
 -- `table::read_lines` meets its contract.
 -- Assumes nothing.
-use mathlib.Core.Path.{sym, ◌∙◌}
-use Prim.Native.Nat.{◌-◌}
-use lib.ListN.{length}
 use borrow.Author.Rules.{rules}
 use Rattle.table.proofs.LinePass as law
 use Rattle.table.proofs.read_lines.Goals as goal

@@ -1,9 +1,7 @@
 -- `table::read_lines` meets its contract.
 -- Assumes nothing.
-use mathlib.Core.Path.{sym, ◌∙◌}
 use Prim.Native.Nat.{◌-◌}
 use lib.ListN.{length}
-use borrow.Author.Rules.{rules}
 use Rattle.table.proofs.LinePass as law
 use Rattle.table.proofs.read_lines.Given as goal
 

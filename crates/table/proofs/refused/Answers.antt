@@ -1,6 +1,5 @@
 -- `table::refused` meets its contract.
 -- Assumes nothing.
-use borrow.Author.Rules.{rules}
 use Rattle.table.proofs.refused.Goals as goal
 
 pub returns : goal.returns

@@ -1,6 +1,5 @@
 -- `table::write` meets its contract.
 -- Assumes nothing.
-use borrow.Author.Rules.{rules}
 use Rattle.table.proofs.Writes as law
 use Rattle.table.proofs.write.Goals as goal
 

@@ -1,6 +1,6 @@
 -- `arith::long_division::divide_product` meets its contract.
 -- Assumes nothing.
-use Rattle.std.proofs.Common.{◌≡◌, ℕ, ◌+◌, ◌-◌, ◌*◌, ◌/◌, ◌%◌, ◌^◌, ◌<◌, sym, ap, ◌∙◌, le_of_lt, mul-le-mul_right, mul_assoc, mul-le-mul, div-add-mod', arith, rules}
+use Rattle.std.proofs.Common.{◌≡◌, ℕ, ◌+◌, ◌-◌, ◌*◌, ◌/◌, ◌%◌, ◌^◌, ◌<◌, sym, ap, ◌∙◌, le_of_lt, mul-le-mul_right, mul_assoc, mul-le-mul, div-add-mod', arith}
 use Rattle.arith.proofs.Digits.{unscaled, factor_pos}
 use Rattle.arith.proofs.long_division.divide_product.Goals as goal
 use Rattle.arith.proofs.long_division.divide_product.Goals.{After-scale-p}

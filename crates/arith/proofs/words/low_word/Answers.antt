@@ -1,6 +1,6 @@
 -- `arith::words::low_word` meets its contract.
 -- Assumes nothing.
-use Rattle.std.proofs.Common.{◌∙◌, arith, rules}
+use Rattle.std.proofs.Common.{◌∙◌, arith}
 use Rattle.arith.proofs.Halves.{Halves, halves, low_word}
 use Rattle.arith.proofs.words.low_word.Goals as goal
 use Rattle.arith.proofs.words.low_word.Goals.{Start}

@@ -1,6 +1,5 @@
 -- `booking::book::total_with` meets its contract.
 -- Assumes nothing.
-use borrow.Author.Rules.{rules}
 use Rattle.booking.proofs.Totals as law
 use Rattle.booking.proofs.book.total_with.Goals as goal
 

@@ -1,6 +1,5 @@
 -- `events::form::closes` meets its contract.
 -- Assumes nothing.
-use borrow.Author.Rules.{rules}
 use Rattle.events.proofs.LineEnds as law
 use Rattle.events.proofs.form.closes.Goals as goal
 

@@ -1,7 +1,5 @@
 -- `events::form::read_amounts` meets its contract.
 -- Assumes nothing.
-use native.Mathlib.Omega.{arith}
-use borrow.Author.Rules.{rules}
 use Rattle.events.proofs.LineParts as law
 use Rattle.events.proofs.form.read_amounts.Given as goal
 

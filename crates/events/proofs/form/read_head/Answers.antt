@@ -1,6 +1,5 @@
 -- `events::form::read_head` meets its contract.
 -- Assumes nothing.
-use borrow.Author.Rules.{rules}
 use Rattle.events.proofs.LineParts as law
 use Rattle.events.proofs.form.read_head.Goals as goal
 

@@ -1,6 +1,5 @@
 -- `events::rule::fault` meets its contract.
 -- Assumes nothing.
-use borrow.Author.Rules.{rules}
 use Rattle.events.proofs.Faults as law
 use Rattle.events.proofs.rule.fault.Goals as goal
 

@@ -1,7 +1,6 @@
 -- `layer::numbers::rates_of` meets its contract.
 -- Assumes nothing.
 use Prim.Native.Nat.{◌-◌}
-use borrow.Author.Rules.{rules}
 use Rattle.layer.proofs.RatePass as law
 use Rattle.layer.proofs.numbers.rates_of.Given as goal
 

@@ -1,6 +1,5 @@
 -- `layer::numbers::terms_of` meets its contract.
 -- Assumes nothing.
-use borrow.Author.Rules.{rules}
 use Rattle.layer.proofs.TermsRows as law
 use Rattle.layer.proofs.numbers.terms_of.Goals as goal
 

@@ -1,8 +1,6 @@
 -- `losses::event::cede_each` meets its contract.
 -- Assumes nothing.
 use Prim.Native.Nat.{◌-◌}
-use borrow.Author.Rules.{rules}
-use Rattle.treaty.specs.Ranges.{LossInRange}
 use Rattle.losses.specs.Cede.{losses_from}
 use Rattle.losses.proofs.CedePass as law
 use Rattle.losses.proofs.event.cede_each.Given as goal

@@ -1,6 +1,5 @@
 -- `losses::treaties::lacks` meets its contract.
 -- Assumes nothing.
-use borrow.Author.Rules.{rules}
 use Rattle.losses.proofs.RegisteredTreaties as law
 use Rattle.losses.proofs.treaties.lacks.Goals as goal
 

@@ -1,6 +1,5 @@
 -- `losses::treaties::number_at` meets its contract.
 -- Assumes nothing.
-use borrow.Author.Rules.{rules}
 use Rattle.losses.proofs.TreatyRows.{number-made}
 use Rattle.losses.proofs.treaties.number_at.Goals as goal
 

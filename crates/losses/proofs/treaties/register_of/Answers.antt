@@ -1,6 +1,5 @@
 -- `losses::treaties::register_of` meets its contract.
 -- Assumes nothing.
-use Prim.Native.Nat.{◌-◌}
 use borrow.Author.Rules.{rules}
 use Rattle.losses.proofs.RegisterPass as law
 use Rattle.losses.proofs.treaties.register_of.Goals as goal

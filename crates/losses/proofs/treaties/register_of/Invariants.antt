@@ -1,7 +1,6 @@
 -- `losses::treaties::register_of` meets its contract.
 -- Assumes nothing.
 use Prim.Native.Nat.{◌-◌}
-use borrow.Author.Rules.{rules}
 use Rattle.losses.proofs.RegisterPass as law
 use Rattle.losses.proofs.treaties.register_of.Given as goal
 

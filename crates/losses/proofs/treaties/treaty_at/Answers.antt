@@ -1,6 +1,5 @@
 -- `losses::treaties::treaty_at` meets its contract.
 -- Assumes nothing.
-use borrow.Author.Rules.{rules}
 use Rattle.losses.proofs.TreatyRows.{treaty-made}
 use Rattle.losses.proofs.treaties.treaty_at.Goals as goal
 

@@ -1,9 +1,6 @@
 -- `programme::range::rates_outside` meets its contract.
 -- Assumes nothing.
 use mathlib.Core.Path.{refl}
-use Prim.Native.Nat.{◌-◌}
-use mir.Syntax.{w64}
-use borrow.Kind.Array.{good_length, e_int}
 use borrow.Author.Rules.{rules}
 use Rattle.programme.proofs.Rates as law
 use Rattle.programme.proofs.range.rates_outside.Goals as goal

@@ -1,7 +1,6 @@
 -- `programme::range::treaty_outside` meets its contract.
 -- Assumes nothing.
 use Rattle.programme.proofs.Bounds as law
-use borrow.Author.Rules.{rules}
 use Rattle.programme.proofs.range.treaty_outside.Goals as goal
 
 pub returns-in-1 : goal.returns-in-1

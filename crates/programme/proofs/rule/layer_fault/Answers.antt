@@ -1,7 +1,6 @@
 -- `programme::rule::layer_fault` meets its contract.
 -- Assumes nothing.
 use Rattle.programme.proofs.Faults as law
-use borrow.Author.Rules.{rules}
 use Rattle.programme.proofs.rule.layer_fault.Goals as goal
 
 pub returns-then-terms_outside-gt0 : goal.returns-then-terms_outside-gt0

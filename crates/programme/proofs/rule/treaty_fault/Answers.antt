@@ -1,7 +1,6 @@
 -- `programme::rule::treaty_fault` meets its contract.
 -- Assumes nothing.
 use Rattle.programme.proofs.Faults as law
-use borrow.Author.Rules.{rules}
 use Rattle.programme.proofs.rule.treaty_fault.Goals as goal
 
 pub returns-then-treaty_outside-gt0 : goal.returns-then-treaty_outside-gt0

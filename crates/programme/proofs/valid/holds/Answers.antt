@@ -1,6 +1,5 @@
 -- `programme::valid::holds` meets its contract.
 -- Assumes nothing.
-use borrow.Author.Rules.{rules}
 use Rattle.programme.proofs.Tests.{treaties_not, risk_not, as_cat}
 use Rattle.programme.proofs.valid.holds.Goals as goal
 

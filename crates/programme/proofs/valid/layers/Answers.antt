@@ -1,6 +1,5 @@
 -- `programme::valid::layers` meets its contract.
 -- Assumes nothing.
-use borrow.Author.Rules.{rules}
 use Rattle.programme.proofs.Tests.{layers-beyond, layers-used, layers-tested}
 use Rattle.programme.proofs.valid.layers.Goals as goal
 

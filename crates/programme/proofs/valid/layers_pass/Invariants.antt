@@ -1,12 +1,9 @@
 -- `programme::valid::layers_pass` meets its contract.
 -- Assumes nothing.
 use Prim.Native.Nat.{◌-◌}
-use native.Mathlib.Omega.{arith}
-use borrow.Author.Rules.{rules}
-use Rattle.lists.proofs.Chains.{Chaining, chain-begins, chain_next, chain-stops, chain-ends}
+use Rattle.lists.proofs.Chains.{Chaining}
 use Rattle.programme.specs.Rules.{band_end}
 use Rattle.programme.specs.Valid.{layer_passes}
-use Rattle.programme.proofs.Tests.{layer-outside, layer-low, layer-passes, end-small}
 use Rattle.programme.proofs.valid.layers_pass.Given as goal
 
 abbrev pub invariant-loop-i : goal.invariant-loop-i

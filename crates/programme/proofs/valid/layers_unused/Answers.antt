@@ -1,12 +1,7 @@
 -- `programme::valid::layers_unused` meets its contract.
 -- Assumes nothing.
-use mathlib.Core.Path.{◌≡◌}
-use Prim.Native.Nat.{◌-◌}
 use native.Mathlib.Omega.{arith}
-use lib.ListN.{length}
-use borrow.Author.Rules.{rules}
-use Rattle.lists.proofs.Chains.{Passing, every-begins, every-next, every-stops, every-ends}
-use Rattle.programme.specs.Valid.{terms_unused}
+use Rattle.lists.proofs.Chains.{every-begins, every-next, every-stops, every-ends}
 use Rattle.programme.proofs.Tests.{terms-used, terms-unused}
 use Rattle.programme.proofs.valid.layers_unused.Goals as goal
 

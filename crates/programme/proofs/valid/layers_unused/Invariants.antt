@@ -2,12 +2,9 @@
 -- Assumes nothing.
 use mathlib.Core.Path.{◌≡◌}
 use Prim.Native.Nat.{◌-◌}
-use native.Mathlib.Omega.{arith}
 use lib.ListN.{length}
-use borrow.Author.Rules.{rules}
-use Rattle.lists.proofs.Chains.{Passing, every-begins, every-next, every-stops, every-ends}
+use Rattle.lists.proofs.Chains.{Passing}
 use Rattle.programme.specs.Valid.{terms_unused}
-use Rattle.programme.proofs.Tests.{terms-used, terms-unused}
 use Rattle.programme.proofs.valid.layers_unused.Given as goal
 
 abbrev pub invariant-loop-i : goal.invariant-loop-i

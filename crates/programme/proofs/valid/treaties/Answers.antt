@@ -1,6 +1,5 @@
 -- `programme::valid::treaties` meets its contract.
 -- Assumes nothing.
-use borrow.Author.Rules.{rules}
 use Rattle.programme.proofs.Tests.{treaties-beyond, treaties-used, treaties-tested}
 use Rattle.programme.proofs.valid.treaties.Goals as goal
 

@@ -1,12 +1,9 @@
 -- `programme::valid::treaties_pass` meets its contract.
 -- Assumes nothing.
 use Prim.Native.Nat.{◌-◌}
-use native.Mathlib.Omega.{arith}
-use borrow.Author.Rules.{rules}
-use Rattle.lists.proofs.Chains.{Chaining, chain-begins, chain_next, chain-stops, chain-ends}
+use Rattle.lists.proofs.Chains.{Chaining}
 use Rattle.programme.specs.Rules.{treaty_number}
 use Rattle.programme.specs.Valid.{treaty_passes}
-use Rattle.programme.proofs.Tests.{treaty-outside, treaty-low, treaty-passes}
 use Rattle.programme.proofs.valid.treaties_pass.Given as goal
 
 abbrev pub invariant-loop-i : goal.invariant-loop-i

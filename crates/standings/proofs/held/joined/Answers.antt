@@ -1,6 +1,5 @@
 -- `standings::held::joined` meets its contract.
 -- Assumes nothing.
-use borrow.Author.Rules.{rules}
 use Rattle.standings.proofs.Halves.{both-eight}
 use Rattle.standings.proofs.held.joined.Goals as goal
 

@@ -1,6 +1,5 @@
 -- `standings::held::spent` meets its contract.
 -- Assumes nothing.
-use borrow.Author.Rules.{rules}
 use Rattle.standings.proofs.Halves.{first-half}
 use Rattle.standings.proofs.held.spent.Goals as goal
 

@@ -1,6 +1,5 @@
 -- `standings::held::timed` meets its contract.
 -- Assumes nothing.
-use borrow.Author.Rules.{rules}
 use Rattle.standings.proofs.Halves.{last-eight}
 use Rattle.standings.proofs.held.timed.Goals as goal
 

@@ -1,9 +1,6 @@
 -- `standings::terms::lay_out` meets its contract.
 -- Assumes nothing.
 use mathlib.Core.Path.{sym}
-use Prim.Native.Nat.{◌-◌}
-use borrow.Author.Rules.{rules}
-use Rattle.lists.proofs.Passes.{unmapped}
 use Rattle.standings.proofs.LaidOut as law
 use Rattle.standings.proofs.terms.lay_out.Goals as goal
 

@@ -2,7 +2,6 @@
 -- Assumes nothing.
 use mathlib.Core.Path.{sym, ◌∙◌}
 use native.Mathlib.Omega.{arith}
-use borrow.Author.Rules.{rules}
 use Rattle.programme.proofs.Validity.{layers-few}
 use Rattle.standings.proofs.Tests.{spent-beyond, above_caps, none-timed, timed-beyond, by-premiums}
 use Rattle.standings.proofs.test.tier_passes.Goals as goal

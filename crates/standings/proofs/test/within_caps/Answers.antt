@@ -1,9 +1,5 @@
 -- `standings::test::within_caps` meets its contract.
 -- Assumes nothing.
-use mathlib.Core.List.{[]}
-use Prim.Native.Nat.{◌-◌}
-use borrow.Author.Rules.{rules}
-use Rattle.year.specs.Standing.{within_cap}
 use Rattle.standings.proofs.Tests as law
 use Rattle.standings.proofs.test.within_caps.Goals as goal
 

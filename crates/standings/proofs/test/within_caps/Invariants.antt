@@ -2,7 +2,6 @@
 -- Assumes nothing.
 use mathlib.Core.List.{[]}
 use Prim.Native.Nat.{◌-◌}
-use borrow.Author.Rules.{rules}
 use Rattle.year.specs.Standing.{within_cap}
 use Rattle.standings.proofs.Tests as law
 use Rattle.standings.proofs.test.within_caps.Given as goal

@@ -1,10 +1,7 @@
 -- `standings::test::within_premiums` meets its contract.
 -- Assumes nothing.
 use mathlib.Core.Path.{ap, ◌∙◌}
-use Prim.Native.Nat.{◌-◌}
-use borrow.Author.Rules.{rules}
 use Rattle.layer.specs.Layer.{timed_most}
-use Rattle.year.specs.Standing.{within_premium}
 use Rattle.standings.proofs.Tests as law
 use Rattle.standings.proofs.test.within_premiums.Goals as goal
 

@@ -2,14 +2,9 @@
 -- Assumes nothing.
 use mathlib.Core.Path.{◌≡◌}
 use Prim.Native.Nat.{ℕ, ◌-◌}
-use native.Mathlib.Omega.{arith}
-use mir.Syntax.{w64}
-use borrow.Kind.Array.{good_length, e_int}
-use borrow.Author.Rules.{rules}
-use borrow.Author.Tests.{eq-eqb, ne_eqb}
 use lib.Dec.{eqb}
 use lib.ListN.{length}
-use Rattle.lists.proofs.Chains.{Passing, every-begins, every-next, every-stops, every-ends}
+use Rattle.lists.proofs.Chains.{Passing}
 use Rattle.standings.proofs.test.zeros.Given as goal
 
 abbrev pub invariant-loop-i : goal.invariant-loop-i

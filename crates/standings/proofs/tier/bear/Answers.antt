@@ -1,7 +1,6 @@
 -- `standings::tier::bear` meets its contract.
 -- Assumes nothing.
 use mathlib.Core.Path.{refl}
-use native.Mathlib.Omega.{arith}
 use borrow.Author.Rules.{rules}
 use Rattle.layer.proofs.TierPass.{none_ample}
 use Rattle.standings.proofs.LentTiers as law

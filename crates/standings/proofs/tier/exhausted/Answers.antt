@@ -1,9 +1,6 @@
 -- `standings::tier::exhausted` meets its contract.
 -- Assumes nothing.
 use mathlib.Core.Path.{◌∙◌}
-use Prim.Native.Nat.{◌-◌}
-use borrow.Author.Rules.{rules}
-use Rattle.layer.specs.Numbers.{tier_from}
 use Rattle.standings.proofs.Extent as law
 use Rattle.standings.proofs.tier.exhausted.Goals as goal
 

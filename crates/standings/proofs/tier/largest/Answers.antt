@@ -1,9 +1,6 @@
 -- `standings::tier::largest` meets its contract.
 -- Assumes nothing.
-use Prim.Native.Nat.{◌-◌}
 use native.Mathlib.Omega.{arith}
-use borrow.Author.Rules.{rules}
-use lib.ListN.{length}
 use Rattle.standings.proofs.Extent as law
 use Rattle.standings.proofs.tier.largest.Goals as goal
 

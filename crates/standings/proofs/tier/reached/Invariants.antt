@@ -1,7 +1,6 @@
 -- `standings::tier::reached` meets its contract.
 -- Assumes nothing.
 use Prim.Native.Nat.{◌-◌}
-use borrow.Author.Rules.{rules}
 use Rattle.layer.specs.Numbers.{tier_from}
 use Rattle.standings.proofs.Extent as law
 use Rattle.standings.proofs.tier.reached.Given as goal

@@ -1,8 +1,6 @@
 -- `standings::tier::records` meets its contract.
 -- Assumes nothing.
-use mathlib.Core.Path.{refl}
 use Prim.Native.Nat.{◌-◌}
-use borrow.Author.Rules.{rules}
 use Rattle.layer.specs.Numbers.{tier_from}
 use Rattle.standings.proofs.Loads as law
 use Rattle.standings.proofs.tier.records.Given as goal

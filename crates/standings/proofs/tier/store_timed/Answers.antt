@@ -1,6 +1,5 @@
 -- `standings::tier::store_timed` meets its contract.
 -- Assumes nothing.
-use Prim.Native.Nat.{◌-◌}
 use borrow.Author.Rules.{rules}
 use Rattle.standings.proofs.Stores as law
 use Rattle.standings.proofs.tier.store_timed.Goals as goal

@@ -1,6 +1,5 @@
 -- `statement::lines::put_layer` meets its contract.
 -- Assumes nothing.
-use borrow.Author.Rules.{rules}
 use Rattle.statement.proofs.LinePasses as law
 use Rattle.statement.proofs.lines.put_layer.Goals as goal
 

@@ -1,9 +1,7 @@
 -- `statement::lines::put_layers` meets its contract.
 -- Assumes nothing.
 use Prim.Native.Nat.{◌-◌}
-use borrow.Author.Rules.{rules}
 use Rattle.layer.specs.Numbers.{tier_from}
-use Rattle.text.proofs.Passes.{none_passed, passed_length}
 use Rattle.statement.specs.LineKinds.{template_of}
 use Rattle.statement.proofs.LinePasses as law
 use Rattle.statement.proofs.lines.put_layers.Given as goal

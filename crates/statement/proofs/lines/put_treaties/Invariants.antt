@@ -1,8 +1,6 @@
 -- `statement::lines::put_treaties` meets its contract.
 -- Assumes nothing.
 use Prim.Native.Nat.{◌-◌}
-use borrow.Author.Rules.{rules}
-use Rattle.text.proofs.Passes.{passed_length}
 use Rattle.statement.proofs.LinePasses as law
 use Rattle.statement.proofs.lines.put_treaties.Given as goal
 

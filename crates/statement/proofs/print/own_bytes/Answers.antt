@@ -1,6 +1,5 @@
 -- `statement::print::own_bytes` meets its contract.
 -- Assumes nothing.
-use borrow.Author.Rules.{rules}
 use Rattle.statement.proofs.Pieced as law
 use Rattle.statement.proofs.print.own_bytes.Goals as goal
 

@@ -1,6 +1,5 @@
 -- `statement::print::size` meets its contract.
 -- Assumes nothing.
-use borrow.Author.Rules.{rules}
 use Rattle.statement.proofs.LineSizes as law
 use Rattle.statement.proofs.print.size.Goals as goal
 

@@ -1,6 +1,5 @@
 -- `table::form::kind` meets its contract.
 -- Assumes nothing.
-use borrow.Author.Rules.{rules}
 use Rattle.table_text.proofs.LineKinds as law
 use Rattle.table.proofs.form.kind.Goals as goal
 

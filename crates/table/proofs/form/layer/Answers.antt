@@ -1,6 +1,5 @@
 -- `table::form::layer` meets its contract.
 -- Assumes nothing.
-use borrow.Author.Rules.{rules}
 use Rattle.table.proofs.LayerParts as law
 use Rattle.table.proofs.form.layer.Goals as goal
 

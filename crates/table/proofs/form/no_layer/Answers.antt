@@ -1,6 +1,5 @@
 -- `table::form::no_layer` meets its contract.
 -- Assumes nothing.
-use borrow.Author.Rules.{rules}
 use Rattle.table.proofs.form.no_layer.Goals as goal
 
 pub returns : goal.returns

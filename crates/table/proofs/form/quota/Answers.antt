@@ -1,6 +1,5 @@
 -- `table::form::quota` meets its contract.
 -- Assumes nothing.
-use borrow.Author.Rules.{rules}
 use Rattle.table_text.proofs.LineKinds as law
 use Rattle.table.proofs.form.quota.Goals as goal
 

@@ -1,7 +1,6 @@
 -- `table::form::rates` meets its contract.
 -- Assumes nothing.
 use Prim.Native.Nat.{◌-◌}
-use borrow.Author.Rules.{rules}
 use Rattle.table.proofs.RatePass as law
 use Rattle.table.proofs.form.rates.Given as goal
 

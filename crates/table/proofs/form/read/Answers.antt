@@ -1,7 +1,6 @@
 -- `table::form::read` meets its contract.
 -- Assumes nothing.
 use mathlib.Core.Path.{refl}
-use borrow.Author.Rules.{rules}
 use lib.Dec.{lit≤}
 use Rattle.text.specs.Template.{capital, holes}
 use Rattle.table_text.proofs.LineKinds as law

@@ -1,6 +1,5 @@
 -- `table::form::surplus` meets its contract.
 -- Assumes nothing.
-use borrow.Author.Rules.{rules}
 use Rattle.table_text.proofs.LineKinds as law
 use Rattle.table.proofs.form.surplus.Goals as goal
 

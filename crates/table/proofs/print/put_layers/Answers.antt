@@ -1,11 +1,8 @@
 -- `table::print::put_layers` meets its contract.
 -- Assumes nothing.
-use Prim.Native.Nat.{◌-◌}
 use borrow.Author.Rules.{rules}
-use Rattle.lists.proofs.Passes.{unmapped}
 use Rattle.text.proofs.Passes.{none_passed, passed_length}
 use Rattle.programme.proofs.Validity.{layers-few}
-use Rattle.table_text.specs.Forms.{terms_line}
 use Rattle.table.proofs.Tables as law
 use Rattle.table.proofs.print.put_layers.Goals as goal
 

@@ -1,6 +1,5 @@
 -- `table::print::put_rates` meets its contract.
 -- Assumes nothing.
-use Prim.Native.Nat.{◌-◌}
 use borrow.Author.Rules.{rules}
 use Rattle.text.proofs.Passes.{none_passed, passed_length}
 use Rattle.table.proofs.RatePass as law

@@ -1,8 +1,6 @@
 -- `table::print::put_rates` meets its contract.
 -- Assumes nothing.
 use Prim.Native.Nat.{◌-◌}
-use borrow.Author.Rules.{rules}
-use Rattle.text.proofs.Passes.{none_passed, passed_length}
 use Rattle.table.proofs.RatePass as law
 use Rattle.table.proofs.print.put_rates.Given as goal
 

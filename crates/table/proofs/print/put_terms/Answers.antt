@@ -1,7 +1,6 @@
 -- `table::print::put_terms` meets its contract.
 -- Assumes nothing.
 use borrow.Author.Rules.{rules}
-use Rattle.lists.proofs.Passes.{unmapped}
 use Rattle.text.specs.Template.{capital, holes}
 use Rattle.table.proofs.Tables as law
 use Rattle.table.proofs.print.put_terms.Goals as goal

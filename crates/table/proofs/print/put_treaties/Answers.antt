@@ -1,10 +1,7 @@
 -- `table::print::put_treaties` meets its contract.
 -- Assumes nothing.
-use Prim.Native.Nat.{◌-◌}
 use borrow.Author.Rules.{rules}
-use Rattle.lists.proofs.Passes.{unmapped}
 use Rattle.text.proofs.Passes.{none_passed, passed_length, passed-small}
-use Rattle.table_text.specs.Forms.{treaty_line}
 use Rattle.table.proofs.Tables as law
 use Rattle.table.proofs.print.put_treaties.Goals as goal
 

@@ -1,6 +1,5 @@
 -- `text::buffer::put_bytes` meets its contract.
 -- Assumes nothing.
-use Rattle.std.proofs.Common.{◌-◌, length, rules}
 use Rattle.text.proofs.Copies as law
 use Rattle.text.proofs.buffer.put_bytes.Goals as goal
 

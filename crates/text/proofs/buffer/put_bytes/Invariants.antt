@@ -1,6 +1,6 @@
 -- `text::buffer::put_bytes` meets its contract.
 -- Assumes nothing.
-use Rattle.std.proofs.Common.{◌-◌, length, rules}
+use Rattle.std.proofs.Common.{◌-◌, length}
 use Rattle.text.proofs.Copies as law
 use Rattle.text.proofs.buffer.put_bytes.Given as goal
 

@@ -1,6 +1,5 @@
 -- `text::buffer::put_within` meets its contract.
 -- Assumes nothing.
-use Rattle.std.proofs.Common.{◌+◌, ◌-◌, length, rules}
 use Rattle.text.proofs.Copies as law
 use Rattle.text.proofs.buffer.put_within.Goals as goal
 

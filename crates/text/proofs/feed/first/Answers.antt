@@ -1,6 +1,5 @@
 -- `text::feed::first` meets its contract.
 -- Assumes nothing.
-use Rattle.std.proofs.Common.{rules}
 use Rattle.text.proofs.Borrows as law
 use Rattle.text.proofs.feed.first.Goals as goal
 

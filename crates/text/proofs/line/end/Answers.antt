@@ -1,6 +1,6 @@
 -- `text::line::end` meets its contract.
 -- Assumes nothing.
-use Rattle.std.proofs.Common.{◌-◌, length, sym, ◌∙◌, rules}
+use Rattle.std.proofs.Common.{sym, ◌∙◌, rules}
 use Rattle.text.proofs.Feeds as law
 use Rattle.text.proofs.FirstFeed as feed
 use Rattle.text.proofs.line.end.Goals as goal

@@ -1,8 +1,7 @@
 -- `text::line::end` meets its contract.
 -- Assumes nothing.
-use Rattle.std.proofs.Common.{◌-◌, length, sym, ◌∙◌, rules}
+use Rattle.std.proofs.Common.{◌-◌, length}
 use Rattle.text.proofs.Feeds as law
-use Rattle.text.proofs.FirstFeed as feed
 use Rattle.text.proofs.line.end.Given as goal
 
 abbrev pub invariant-loop-from : goal.invariant-loop-from

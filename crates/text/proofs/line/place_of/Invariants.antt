@@ -1,6 +1,6 @@
 -- `text::line::place_of` meets its contract.
 -- Assumes nothing.
-use Rattle.std.proofs.Common.{◌-◌, length, rules}
+use Rattle.std.proofs.Common.{◌-◌, length}
 use Rattle.text.proofs.Feeds as law
 use Rattle.text.proofs.line.place_of.Given as goal
 

@@ -1,6 +1,6 @@
 -- `text::line::stands` meets its contract.
 -- Assumes nothing.
-use Rattle.std.proofs.Common.{arith, rules}
+use Rattle.std.proofs.Common.{arith}
 use Rattle.text.proofs.Begins as law
 use Rattle.text.proofs.line.stands.Goals as goal
 

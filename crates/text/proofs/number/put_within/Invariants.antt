@@ -1,6 +1,5 @@
 -- `text::number::put_within` meets its contract.
 -- Assumes nothing.
-use Rattle.std.proofs.Common.{rules}
 use Rattle.text.proofs.Backwards as law
 use Rattle.text.proofs.number.put_within.Given as goal
 

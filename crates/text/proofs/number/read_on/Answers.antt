@@ -1,7 +1,6 @@
 -- `text::number::read_on` meets its contract.
 -- Assumes nothing.
-use Rattle.std.proofs.Common.{◌≡◌, ◌-◌, ◌^◌, ◌<◌, ◌≤◌, length, drop, refl, rules}
-use Rattle.text.specs.Number.{read_on}
+use Rattle.std.proofs.Common.{refl, rules}
 use Rattle.text.proofs.Digits as law
 use Rattle.text.proofs.number.read_on.Goals as goal
 

@@ -1,8 +1,7 @@
 -- `text::number::read_on` meets its contract.
 -- Assumes nothing.
-use Rattle.std.proofs.Common.{◌≡◌, ◌-◌, ◌^◌, ◌<◌, ◌≤◌, length, drop, refl, rules}
+use Rattle.std.proofs.Common.{◌≡◌, ◌-◌, ◌^◌, ◌<◌, ◌≤◌, length, drop}
 use Rattle.text.specs.Number.{read_on}
-use Rattle.text.proofs.Digits as law
 use Rattle.text.proofs.number.read_on.Given as goal
 
 abbrev pub invariant-loop-i : goal.invariant-loop-i

@@ -1,6 +1,5 @@
 -- `text::number::read_short` meets its contract.
 -- Assumes nothing.
-use Rattle.std.proofs.Common.{rules}
 use Rattle.text.proofs.Digits as law
 use Rattle.text.proofs.number.read_short.Goals as goal
 

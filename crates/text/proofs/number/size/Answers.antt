@@ -1,6 +1,6 @@
 -- `text::number::size` meets its contract.
 -- Assumes nothing.
-use Rattle.std.proofs.Common.{◌/◌, ◌^◌, sym, arith, rules}
+use Rattle.std.proofs.Common.{◌/◌, ◌^◌, sym, arith}
 use Rattle.text.proofs.Lengths.{length-one, digits-length, digits_besides}
 use Rattle.text.proofs.number.size.Goals as goal
 

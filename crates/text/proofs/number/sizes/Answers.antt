@@ -1,6 +1,6 @@
 -- `text::number::sizes` meets its contract.
 -- Assumes nothing.
-use Rattle.std.proofs.Common.{◌-◌, length, rules}
+use Rattle.std.proofs.Common.{rules}
 use Rattle.text.proofs.Lengths as law
 use Rattle.text.proofs.number.sizes.Goals as goal
 

@@ -1,6 +1,6 @@
 -- `text::number::sizes` meets its contract.
 -- Assumes nothing.
-use Rattle.std.proofs.Common.{◌-◌, length, rules}
+use Rattle.std.proofs.Common.{◌-◌, length}
 use Rattle.text.proofs.Lengths as law
 use Rattle.text.proofs.number.sizes.Given as goal
 

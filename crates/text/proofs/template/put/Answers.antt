@@ -1,6 +1,6 @@
 -- `text::template::put` meets its contract.
 -- Assumes nothing.
-use Rattle.std.proofs.Common.{◌-◌, length, rules}
+use Rattle.std.proofs.Common.{rules}
 use Rattle.text.proofs.Filling as law
 use Rattle.text.proofs.template.put.Goals as goal
 

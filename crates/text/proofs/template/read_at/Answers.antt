@@ -1,7 +1,6 @@
 -- `text::template::read_at` meets its contract.
 -- Assumes nothing.
-use Rattle.std.proofs.Common.{◌-◌, [], length, drop, refl, rules}
-use Rattle.text.specs.Template.{matched}
+use Rattle.std.proofs.Common.{refl, rules}
 use Rattle.text.proofs.Matching as law
 use Rattle.text.proofs.template.read_at.Goals as goal
 

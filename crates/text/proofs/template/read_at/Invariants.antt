@@ -1,6 +1,6 @@
 -- `text::template::read_at` meets its contract.
 -- Assumes nothing.
-use Rattle.std.proofs.Common.{◌-◌, [], length, drop, refl, rules}
+use Rattle.std.proofs.Common.{◌-◌, [], length, drop}
 use Rattle.text.specs.Template.{matched}
 use Rattle.text.proofs.Matching as law
 use Rattle.text.proofs.template.read_at.Given as goal

@@ -1,6 +1,5 @@
 -- `text::template::read_line` meets its contract.
 -- Assumes nothing.
-use Rattle.std.proofs.Common.{rules}
 use Rattle.text.proofs.Matching as law
 use Rattle.text.proofs.template.read_line.Goals as goal
 

@@ -1,6 +1,6 @@
 -- `text::word::first` meets its contract.
 -- Assumes nothing.
-use Rattle.std.proofs.Common.{arith, rules}
+use Rattle.std.proofs.Common.{arith}
 use Rattle.text.proofs.Eights.{first-figures, first-value}
 use Rattle.text.proofs.word.first.Goals as goal
 

@@ -1,6 +1,5 @@
 -- `text::word::four` meets its contract.
 -- Assumes nothing.
-use Rattle.std.proofs.Common.{rules}
 use Rattle.text.proofs.Words as law
 use Rattle.text.proofs.word.four.Goals as goal
 

@@ -1,6 +1,5 @@
 -- `text::word::leading` meets its contract.
 -- Assumes nothing.
-use Rattle.std.proofs.Common.{rules}
 use Rattle.text.proofs.Zeros.{leading-bytes}
 use Rattle.text.proofs.word.leading.Goals as goal
 

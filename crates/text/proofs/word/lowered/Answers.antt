@@ -1,6 +1,5 @@
 -- `text::word::lowered` meets its contract.
 -- Assumes nothing.
-use Rattle.std.proofs.Common.{rules}
 use Rattle.text.proofs.Marks.{lowered_bytes}
 use Rattle.text.proofs.word.lowered.Goals as goal
 

@@ -1,6 +1,5 @@
 -- `text::word::seven` meets its contract.
 -- Assumes nothing.
-use Rattle.std.proofs.Common.{rules}
 use Rattle.text.proofs.Words.{seven_bytes}
 use Rattle.text.proofs.word.seven.Goals as goal
 

@@ -1,6 +1,5 @@
 -- `text::word::two` meets its contract.
 -- Assumes nothing.
-use Rattle.std.proofs.Common.{rules}
 use Rattle.text.proofs.Words as law
 use Rattle.text.proofs.word.two.Goals as goal
 

@@ -1,6 +1,5 @@
 -- `treaty::Treaty::by_kind` meets its contract.
 -- Assumes nothing.
-use borrow.Author.Rules.{rules}
 use Rattle.treaty.proofs.Cases.{kind-quota, kind-surplus, kind-neither}
 use Rattle.treaty.proofs.Treaty.by_kind.Goals as goal
 

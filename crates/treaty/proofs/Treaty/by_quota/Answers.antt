@@ -11,9 +11,9 @@ pub returns-then-self-eq0 : goal.returns-then-self-eq0
 returns-then-self-eq0 c =
     let r = c.mul_div_word.ensures in
     elim c.then-self-eq0.branch [
-      then-self-eq0-via-then-self-eq0 w ↦ quota_without_capacity _ _ _ _ _ w.if-self-eq0.true r
+      | then-self-eq0-via-then-self-eq0 w ↦ quota_without_capacity _ _ _ _ _ w.if-self-eq0.true r
       | then-self-eq0-via-else-self-eq0+then-maximum-self w ↦
-        quota-within _ _ _ _ _ w.if-self-eq0.false (le-leb _ _ w.if-maximum-self.true) r
+          quota-within _ _ _ _ _ w.if-self-eq0.false (le-leb _ _ w.if-maximum-self.true) r
     ]
 
 pub overflow_mul-self : goal.overflow_mul-self

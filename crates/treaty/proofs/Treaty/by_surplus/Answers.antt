@@ -1,6 +1,5 @@
 -- `treaty::Treaty::by_surplus` meets its contract.
 -- Assumes nothing.
-use borrow.Author.Rules.{rules}
 use Rattle.treaty.proofs.Bounds.{surplus-product}
 use Rattle.treaty.proofs.Cases.{surplus-retained, surplus-above, surplus-between}
 use Rattle.treaty.proofs.Treaty.by_surplus.Goals as goal

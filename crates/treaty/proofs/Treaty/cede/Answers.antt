@@ -3,7 +3,6 @@
 use mathlib.Core.Path.{◌≡◌, ap, ◌∙◌}
 use Prim.Native.Nat.{◌≤◌}
 use native.Mathlib.Omega.{arith}
-use borrow.Author.Rules.{rules}
 use Rattle.treaty.specs.Treaty.{cut_to_limit, ceded_of_loss}
 use Rattle.treaty.proofs.Cessions.{ceded-le-amount}
 use Rattle.treaty.proofs.Treaty.cede.Goals as goal

@@ -1,6 +1,5 @@
 -- `treaty::Treaty::cut_to_limit` meets its contract.
 -- Assumes nothing.
-use borrow.Author.Rules.{rules}
 use Rattle.treaty.proofs.Cases.{unlimited, used-up, within-limit, above-limit}
 use Rattle.treaty.proofs.Treaty.cut_to_limit.Goals as goal
 

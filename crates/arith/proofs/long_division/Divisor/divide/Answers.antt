@@ -1,6 +1,6 @@
 -- `arith::long_division::Divisor::divide` meets its contract.
 -- Assumes nothing.
-use Rattle.std.proofs.Common.{◌≡◌, ℕ, ◌+◌, ◌*◌, ◌^◌, ◌<◌, arith, rules}
+use Rattle.std.proofs.Common.{◌≡◌, ℕ, ◌+◌, ◌*◌, ◌^◌, ◌<◌, arith}
 use Rattle.arith.proofs.Digits.{two_digits}
 use Rattle.arith.proofs.long_division.Divisor.divide.Goals as goal
 use Rattle.arith.proofs.long_division.Divisor.divide.Goals.{After-rest_word-rest, After-rest_word-rest-2, Start}

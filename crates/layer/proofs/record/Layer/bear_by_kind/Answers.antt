@@ -2,7 +2,6 @@
 -- Assumes nothing.
 use mathlib.Core.Path.{refl, sym, ap, ◌∙◌}
 use native.Mathlib.Omega.{arith}
-use borrow.Author.Rules.{rules}
 use Rattle.layer.specs.Layer.{borne_since}
 use Rattle.layer.proofs.Records.{sound-after}
 use Rattle.layer.proofs.Through.{borne-at-once}

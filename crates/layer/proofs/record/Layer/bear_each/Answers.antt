@@ -1,6 +1,5 @@
 -- `layer::record::Layer::bear_each` meets its contract.
 -- Assumes nothing.
-use borrow.Author.Rules.{rules}
 use Rattle.layer.proofs.Through.{terms-kept}
 use Rattle.layer.proofs.record.Layer.bear_each.Goals as goal
 

@@ -1,10 +1,7 @@
 -- `layer::record::Layer::bear_timed` meets its contract.
 -- Assumes nothing.
 use mathlib.Core.Path.{refl}
-use Prim.Native.Nat.{◌-◌}
 use native.Mathlib.Omega.{arith}
-use borrow.Author.Rules.{rules}
-use lib.ListN.{length}
 use Rattle.layer.proofs.BearPass as law
 use Rattle.layer.proofs.record.Layer.bear_timed.Goals as goal
 

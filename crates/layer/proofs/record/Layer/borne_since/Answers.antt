@@ -3,7 +3,6 @@
 use mathlib.Core.Path.{refl, sym, ap, ◌∙◌}
 use Prim.Native.Nat.{ℕ, ◌+◌}
 use native.Mathlib.Omega.{arith}
-use borrow.Author.Rules.{rules}
 use Rattle.layer.specs.Layer.{charged_since, sums_of}
 use Rattle.layer.proofs.Bounds.{recovered-le}
 use Rattle.layer.proofs.Premiums.{premium-le}

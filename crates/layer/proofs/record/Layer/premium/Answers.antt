@@ -2,7 +2,6 @@
 -- Assumes nothing.
 use mathlib.Core.Path.{◌∙◌}
 use native.Mathlib.Omega.{arith}
-use borrow.Author.Rules.{rules}
 use Rattle.layer.specs.Layer.{premium_of}
 use Rattle.layer.proofs.Bounds.{used_le}
 use Rattle.layer.proofs.TimeTests.{shown-by-time, shown-by-amount}

@@ -2,7 +2,6 @@
 -- Assumes nothing.
 use mathlib.Core.Path.{ap, ◌∙◌}
 use native.Mathlib.Omega.{arith}
-use borrow.Author.Rules.{rules}
 use Rattle.layer.specs.Layer.{placed_of, recovered_of}
 use Rattle.layer.proofs.Bounds.{used_le}
 use Rattle.layer.proofs.record.Layer.recovered.Goals as goal

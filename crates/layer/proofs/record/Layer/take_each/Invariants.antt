@@ -1,8 +1,6 @@
 -- `layer::record::Layer::take_each` meets its contract.
 -- Assumes nothing.
-use Prim.Native.Nat.{◌+◌, ◌-◌}
-use native.Mathlib.Omega.{arith}
-use borrow.Author.Rules.{rules}
+use Prim.Native.Nat.{◌-◌}
 use lib.ListN.{length}
 use Rattle.layer.proofs.LayerPass as law
 use Rattle.layer.proofs.record.Layer.take_each.Given as goal

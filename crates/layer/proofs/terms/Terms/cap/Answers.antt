@@ -1,6 +1,5 @@
 -- `layer::terms::Terms::cap` meets its contract.
 -- Assumes nothing.
-use borrow.Author.Rules.{rules}
 use Rattle.layer.proofs.Bounds.{limits_fit, cap_fits}
 use Rattle.layer.proofs.terms.Terms.cap.Goals as goal
 

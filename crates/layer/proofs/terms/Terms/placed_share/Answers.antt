@@ -1,6 +1,5 @@
 -- `layer::terms::Terms::placed_share` meets its contract.
 -- Assumes nothing.
-use borrow.Author.Rules.{rules}
 use Rattle.layer.specs.Layer.{placed_of}
 use Rattle.layer.proofs.terms.Terms.placed_share.Goals as goal
 

@@ -1,7 +1,6 @@
 -- `layer::terms::Terms::premium_for` meets its contract.
 -- Assumes nothing.
 use mathlib.Core.Path.{◌∙◌}
-use borrow.Author.Rules.{rules}
 use Rattle.layer.proofs.Premiums.{premium-wide}
 use Rattle.layer.proofs.terms.Terms.premium_for.Goals as goal
 

@@ -1,11 +1,7 @@
 -- `layer::terms::Terms::rated` meets its contract.
 -- Assumes nothing.
-use mathlib.Core.Path.{◌≡◌, ◌∙◌}
-use Prim.Native.Nat.{ℕ, ◌+◌, ◌-◌}
+use mathlib.Core.Path.{◌∙◌}
 use native.Mathlib.Omega.{arith}
-use borrow.Author.Rules.{rules}
-use Rattle.layer.specs.declared.terms.Terms.{Terms}
-use Rattle.layer.specs.Layer.{recovered_to, slice_after}
 use Rattle.layer.proofs.SlicePass as law
 use Rattle.layer.proofs.terms.Terms.rated.Goals as goal
 

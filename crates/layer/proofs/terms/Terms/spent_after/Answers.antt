@@ -1,7 +1,6 @@
 -- `layer::terms::Terms::spent_after` meets its contract.
 -- Assumes nothing.
 use native.Mathlib.Omega.{arith}
-use borrow.Author.Rules.{rules}
 use Rattle.layer.proofs.Bounds.{limits_le}
 use Rattle.layer.proofs.terms.Terms.spent_after.Goals as goal
 

@@ -1,7 +1,6 @@
 -- `layer::terms::Terms::timed_most` meets its contract.
 -- Assumes nothing.
 use mathlib.Core.Path.{◌∙◌}
-use borrow.Author.Rules.{rules}
 use Rattle.layer.proofs.TimeTests.{most-by-time, most-by-amount}
 use Rattle.layer.proofs.terms.Terms.timed_most.Goals as goal
 

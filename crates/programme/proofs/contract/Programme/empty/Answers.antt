@@ -1,6 +1,5 @@
 -- `programme::contract::Programme::empty` meets its contract.
 -- Assumes nothing.
-use borrow.Author.Rules.{rules}
 use Rattle.programme.proofs.contract.Programme.empty.Goals as goal
 
 pub returns : goal.returns

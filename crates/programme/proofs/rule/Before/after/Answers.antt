@@ -1,6 +1,5 @@
 -- `programme::rule::Before::after` meets its contract.
 -- Assumes nothing.
-use borrow.Author.Rules.{rules}
 use Rattle.programme.proofs.Faults.{risk-end, cat-end, treaty-after, risk-after, cat-after}
 use Rattle.programme.proofs.rule.Before.after.Goals as goal
 

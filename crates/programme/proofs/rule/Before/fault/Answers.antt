@@ -1,7 +1,6 @@
 -- `programme::rule::Before::fault` meets its contract.
 -- Assumes nothing.
 use Rattle.programme.proofs.Faults as law
-use borrow.Author.Rules.{rules}
 use Rattle.programme.proofs.rule.Before.fault.Goals as goal
 
 pub returns-in-Proportional : goal.returns-in-Proportional
