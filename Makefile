@@ -4,7 +4,7 @@
 #   make              the libraries and the program
 #   make library      the static library, and the shared one made of it
 #   make program      the program
-#   make test         the gate (.ci/run): everything proved from nothing, then tested
+#   make test         the gate (.ci/run): every crate proved, then tested
 #   make install      puts them under PREFIX with header, command, man page and Python module; builds what is missing
 #   make uninstall    removes what install puts there
 #   make help         this list

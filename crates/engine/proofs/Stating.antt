@@ -17,7 +17,6 @@ use Rattle.text.proofs.Pieces.{filled-append}
 use Rattle.text.proofs.Puts.{put-append}
 use Rattle.treaty.specs.declared.Treaty.{Treaty}
 use Rattle.treaty.proofs.Losses.{Numbered}
-use Rattle.layer.specs.declared.terms.Terms.{Terms}
 use Rattle.layer.specs.declared.record.Layer.{Layer}
 use Rattle.layer.specs.Numbers.{tier_from, held_width}
 use Rattle.layer.specs.Ranges.{Sound}

@@ -1,6 +1,5 @@
 -- `client::read_refused` meets its contract.
 -- Assumes nothing.
-use borrow.Author.Rules.{rules}
 use Rattle.client.proofs.Computed as law
 use Rattle.client.proofs.read_refused.Goals as goal
 

@@ -1,6 +1,5 @@
 -- `client::read_rising` meets its contract.
 -- Assumes nothing.
-use borrow.Author.Rules.{rules}
 use Rattle.client.proofs.ScaledRun as law
 use Rattle.client.proofs.read_rising.Goals as goal
 

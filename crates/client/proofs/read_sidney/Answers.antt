@@ -1,6 +1,5 @@
 -- `client::read_sidney` meets its contract.
 -- Assumes nothing.
-use borrow.Author.Rules.{rules}
 use Rattle.client.proofs.Computed as law
 use Rattle.client.proofs.read_sidney.Goals as goal
 

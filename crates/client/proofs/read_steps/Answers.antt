@@ -1,6 +1,5 @@
 -- `client::read_steps` meets its contract.
 -- Assumes nothing.
-use borrow.Author.Rules.{rules}
 use Rattle.client.proofs.ScaledRun as law
 use Rattle.client.proofs.read_steps.Goals as goal
 

@@ -1,6 +1,5 @@
 -- `client::run_built_in` meets its contract.
 -- Assumes nothing.
-use borrow.Author.Rules.{rules}
 use Rattle.client.proofs.ScaledRun as law
 use Rattle.client.proofs.run_built_in.Goals as goal
 

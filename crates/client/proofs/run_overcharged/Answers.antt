@@ -1,6 +1,5 @@
 -- `client::run_overcharged` meets its contract.
 -- Assumes nothing.
-use borrow.Author.Rules.{rules}
 use Rattle.client.proofs.TimedRun as law
 use Rattle.client.proofs.run_overcharged.Goals as goal
 

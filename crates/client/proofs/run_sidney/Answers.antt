@@ -1,6 +1,5 @@
 -- `client::run_sidney` meets its contract.
 -- Assumes nothing.
-use borrow.Author.Rules.{rules}
 use Rattle.client.proofs.Computed as law
 use Rattle.client.proofs.run_sidney.Goals as goal
 

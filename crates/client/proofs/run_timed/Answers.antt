@@ -1,6 +1,5 @@
 -- `client::run_timed` meets its contract.
 -- Assumes nothing.
-use borrow.Author.Rules.{rules}
 use Rattle.client.proofs.TimedRun as law
 use Rattle.client.proofs.run_timed.Goals as goal
 

@@ -1,6 +1,5 @@
 -- `client::run_too_few` meets its contract.
 -- Assumes nothing.
-use borrow.Author.Rules.{rules}
 use Rattle.client.proofs.ScaledRun as law
 use Rattle.client.proofs.run_too_few.Goals as goal
 

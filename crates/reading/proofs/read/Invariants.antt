@@ -1,9 +1,6 @@
 -- `reading::read` meets its contract.
 -- Assumes nothing.
-use mathlib.Core.Logic.{⊎_elim}
-use mathlib.Core.Path.{◌∙◌}
 use Prim.Native.Nat.{◌+◌, ◌-◌}
-use borrow.Author.Rules.{rules}
 use lib.ListN.{length}
 use Rattle.losses.specs.Treaties.{treaties_from}
 use Rattle.reading.proofs.LossRead as loss

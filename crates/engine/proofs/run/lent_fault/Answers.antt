@@ -1,7 +1,6 @@
 -- `engine::run::lent_fault` meets its contract.
 -- Assumes nothing.
 use mathlib.Core.Path.{sym, ◌∙◌}
-use borrow.Author.Rules.{rules}
 use Rattle.engine.proofs.RunTests as law
 use Rattle.engine.proofs.run.lent_fault.Goals as goal
 

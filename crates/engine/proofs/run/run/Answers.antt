@@ -1,7 +1,5 @@
 -- `engine::run::run` meets its contract.
 -- Assumes nothing.
-use mathlib.Core.Path.{◌≡◌}
-use borrow.Author.Rules.{rules}
 use Rattle.scale.proofs.Table.{built_in_passes}
 use Rattle.engine.proofs.RunTests as law
 use Rattle.engine.proofs.run.run.Goals as goal

@@ -1,7 +1,6 @@
 -- `engine::run::run_scaled` meets its contract.
 -- Assumes nothing.
 use mathlib.Core.Path.{sym, ◌∙◌}
-use borrow.Author.Rules.{rules}
 use Rattle.engine.proofs.RunTests as law
 use Rattle.engine.proofs.run.run_scaled.Goals as goal
 

@@ -1,9 +1,7 @@
 -- `engine::run::run_under` meets its contract.
 -- Assumes nothing.
 use mathlib.Core.Path.{refl, sym}
-use Prim.Native.Nat.{◌≤◌}
 use borrow.Author.Rules.{rules}
-use lib.ListN.{length}
 use lib.Seq.{length-take-le}
 use Rattle.scale.proofs.Passing.{passes-fair}
 use Rattle.programme.proofs.Validity.{valid_tells, few-risk, few-cat}

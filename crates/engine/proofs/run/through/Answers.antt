@@ -1,7 +1,6 @@
 -- `engine::run::through` meets its contract.
 -- Assumes nothing.
 use mathlib.Core.Path.{refl}
-use Prim.Native.Nat.{◌≤◌}
 use borrow.Author.Rules.{rules}
 use Rattle.engine.proofs.RunLines as law
 use Rattle.engine.proofs.run.through.Goals as goal

@@ -1,6 +1,5 @@
 -- `engine::run::write` meets its contract.
 -- Assumes nothing.
-use borrow.Author.Rules.{rules}
 use Rattle.engine.proofs.Writing as law
 use Rattle.engine.proofs.run.write.Goals as goal
 
