@@ -5,7 +5,6 @@ use crate::calculation::table::Layer;
 use crate::ledger::Ledger;
 use crate::raw::Programme;
 use crate::runs::Run;
-use crate::statement::tier;
 use crate::totals::{numbers, totals};
 
 /// The accepted runs so far.
@@ -20,15 +19,20 @@ pub struct Accepted {
     had_another_scale: bool,
 }
 
+/// The numbers of a tier's lines: place, deductible left, cover left, recovered, premium.
+pub fn tier(statement: &str, word: &str) -> Vec<Vec<u64>> {
+    statement.lines().filter_map(|line| line.strip_prefix(word)).map(numbers).collect()
+}
+
 fn sum(lines: &[Vec<u64>], column: usize) -> u64 {
     lines.iter().map(|line| line[column]).sum()
 }
 
-pub fn equal(name: &str, found: u64, expected: u64) -> Result<(), String> {
+fn equal(name: &str, found: u64, expected: u64) -> Result<(), String> {
     if found == expected {
         return Ok(());
     }
-    Err(format!("{name}: found {found}, expected {expected}"))
+    Err(format!("of the whole history, {name}: found {found}, expected {expected}"))
 }
 
 /// What is used of a layer by a sum of losses.
@@ -113,6 +117,6 @@ impl Accepted {
         if found <= most + halves && found + halves >= least {
             return Ok(());
         }
-        Err(format!("a premium by time: {found} is not from {least} to {most}, give {halves}"))
+        Err(format!("of the whole history, a premium by time: {found} is not from {least} to {most}, give {halves}"))
     }
 }

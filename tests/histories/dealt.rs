@@ -4,12 +4,12 @@
 use crate::boundary::{self, Lent, Room};
 use crate::draw::{line, Lines};
 use crate::history::Difference;
+use crate::in_two::Statement;
 use crate::random::Random;
 use crate::raw::{Programme, Standing};
 use crate::runs::LAST_DAY;
 use crate::scales::{DAYS, WHOLE};
 use crate::show::shown;
-use crate::statement::Statement;
 
 /// A buffer of this length is as long as any statement of a few events.
 const ROOM: usize = 5_000;

@@ -160,8 +160,7 @@ impl History {
     }
 
     pub fn end(&self, tally: &mut Tally) -> Result<(), Difference> {
-        let checked = self.accepted.check(&self.ledger, self.own.scale.shares());
-        checked.map_err(|found| self.with_table(&format!("of the whole history, {found}")))?;
+        self.accepted.check(&self.ledger, self.own.scale.shares()).map_err(|found| self.with_table(&found))?;
         tally.count_history(&self.accepted.totals);
         Ok(())
     }

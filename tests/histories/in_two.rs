@@ -5,10 +5,49 @@ use crate::history::Difference;
 use crate::random::Random;
 use crate::raw::{Programme, Standing};
 use crate::show::shown;
-use crate::statement::Statement;
+use crate::totals::{numbers, totals};
 
 /// A part's statement may be longer than the whole's: covers left in its layers' lines may have more digits.
 const LONGER: usize = 2_000;
+
+/// A statement, its lines sorted out.
+#[derive(PartialEq, Eq, Debug)]
+pub struct Statement {
+    pub events: String,
+    /// Number and amount ceded of each treaty.
+    pub treaties: Vec<Vec<u64>>,
+    pub layers: String,
+    pub total: Vec<u64>,
+}
+
+fn lines<'a>(text: &'a str, word: &'a str) -> impl Iterator<Item = &'a str> {
+    text.split_inclusive('\n').filter(move |line| line.starts_with(word))
+}
+
+impl Statement {
+    pub fn new(text: &[u8]) -> Self {
+        let total = totals(text).unwrap_or_default();
+        let text = String::from_utf8_lossy(text);
+        Statement {
+            events: lines(&text, "(event").collect(),
+            treaties: lines(&text, "(treaty").map(numbers).collect(),
+            layers: lines(&text, "(layer").collect(),
+            total,
+        }
+    }
+
+    /// What one statement says of two runs: their events, the amounts added, the layers as the second left them.
+    pub fn and_then(mut self, second: Statement) -> Statement {
+        self.events += &second.events;
+        for (treaty, more) in self.treaties.iter_mut().zip(&second.treaties) {
+            treaty[1] += more[1];
+        }
+        for (amount, more) in self.total.iter_mut().zip(&second.total) {
+            *amount += more;
+        }
+        Statement { layers: second.layers, ..self }
+    }
+}
 
 /// The runs of a text and of its parts, all from one standing.
 pub struct InTwo<'a> {

@@ -39,7 +39,6 @@ mod scaled;
 mod scales;
 #[path = "../shared/show.rs"]
 mod show;
-mod statement;
 mod tally;
 mod timed;
 #[path = "../shared/times.rs"]

@@ -1,7 +1,7 @@
 //! Events dealt to other days: document 02, Q-13. Loss lists are dealt twice, and each dealing is held to what a year
 //! comes to by the lists alone.
 
-use crate::accepted::equal;
+use crate::accepted::tier;
 use crate::boundary;
 use crate::calculation::dealing::{counted, Figures, Lists, Year};
 use crate::calculation::events::read_events;
@@ -16,7 +16,6 @@ use crate::raw;
 use crate::runs::SCALES;
 use crate::scales::{self, DAYS, WHOLE};
 use crate::show::shown;
-use crate::statement::tier;
 
 /// The whole share for every day: with it a premium by time is the amount premium.
 const WHOLE_SHARES: [u64; DAYS as usize] = [WHOLE; DAYS as usize];
@@ -73,6 +72,13 @@ pub struct Drawn {
 pub struct Made {
     pub dealt: Dealt,
     pub left: Left,
+}
+
+fn equal(name: &str, found: u64, expected: u64) -> Result<(), String> {
+    if found == expected {
+        return Ok(());
+    }
+    Err(format!("of dealt lists, {name}: found {found}, expected {expected}"))
 }
 
 /// Holds the layers of a tier to the year's figures, the premium of a line where it is the amount premium.
