@@ -22,8 +22,8 @@
 // Threads. A call is a pure function of what is lent to it; the library keeps no state and shares none. Calls may run
 // at the same time as long as no thread writes to what another call has been lent.
 //
-// Stack. A run of up to 1,024 bytes of events takes about 31 kB of stack, one of up to 8,192 bytes about 44 kB and a
-// longer one about 150 kB; the other calls take less than 20 kB. These are measured figures: no theorem bounds the
+// Stack. A run of up to 1,024 bytes of events takes about 23 kB of stack, one of up to 8,192 bytes about 36 kB and a
+// longer one about 142 kB; the other calls take less than 20 kB. These are measured figures: no theorem bounds the
 // stack. A thread with 256 kB has enough for each call, one with 64 kB for runs of up to 1,024 bytes of events. A
 // stack needs a guard page below it, as the system gives its threads: without one an overrun goes unnoticed.
 //

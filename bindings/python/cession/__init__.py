@@ -54,7 +54,7 @@ A call that is turned down:
 
 The shared object is the file that the environment's CESSION_LIBRARY names, else libcession.so beside this module, else
 what the system's loader finds under that name. The calls are pure functions of what is lent to them and may run in any
-number of threads at once; a run takes about 31 kB of stack for up to 1,024 bytes of events and about 150 kB for the
+number of threads at once; a run takes about 23 kB of stack for up to 1,024 bytes of events and about 142 kB for the
 longest text, so that a thread of 256 kB has enough.
 """
 

@@ -40,7 +40,7 @@
 //! ```
 //!
 //! The calls are pure functions of what is lent to them and may run in any number of threads at once. A run takes
-//! about 31 kB of stack for up to 1,024 bytes of events and about 150 kB for the longest text: a thread of 256 kB has
+//! about 23 kB of stack for up to 1,024 bytes of events and about 142 kB for the longest text: a thread of 256 kB has
 //! enough for each call, and Rust's threads have 2 MB if nothing else is said. The library libcession.a is linked in;
 //! with Cargo, `CESSION_LIB_DIR` names its folder.
 

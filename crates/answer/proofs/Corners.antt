@@ -4,8 +4,10 @@ use mathlib.Core.Path.{◌≡◌, refl}
 use mathlib.Core.List.{List}
 use Prim.Native.Nat.{ℕ}
 use lib.ListN.{length}
+use Rattle.std.specs.Prelude.{Ok, Err}
+use Rattle.refusal.specs.declared.Refusal.TheVariants.{NoSuchTreaty}
 use Rattle.text.specs.Bytes.{bytes}
-use Rattle.answer.specs.Outcome.{Outcome, TextOnly, text_only, refused, fitted, answer_of, buffer_after}
+use Rattle.answer.specs.Outcome.{Outcome, TextOnly, text_only, refused, fitted, answer_of, answered, buffer_after}
 
 -- a text of five bytes for a buffer
 abbrev five : List ℕ → Outcome TextOnly
@@ -24,6 +26,9 @@ pub record Corners : Type 0 where
   -- another refusal, with its second number
   pub other : answer_of {A = TextOnly} (refused 14 3) ≡ record { refusal = 14; number = 3 }
   pub other-left : buffer_after {A = TextOnly} (refused 14 3) (bytes "ab") ≡ bytes "ab"
+  -- the same of a length, and of a refusal with its second number
+  pub of-length : answered (Ok 5) ≡ record { refusal = 0; number = 5 }
+  pub of-refusal : answered (Err (record { refusal = NoSuchTreaty; number = 3 })) ≡ record { refusal = 14; number = 3 }
 
 pub corners : Corners
 unfolding fitted
@@ -37,4 +42,6 @@ corners = record {
   long-left = refl;
   other = refl;
   other-left = refl;
+  of-length = refl;
+  of-refusal = refl;
 }

@@ -23,20 +23,24 @@ use Rattle.treaty.specs.declared.Treaty.{Treaty}
 use Rattle.treaty.specs.declared.Loss.{Loss}
 use Rattle.treaty.specs.Ranges.{LossInRange}
 use Rattle.layer.specs.Ranges.{Sound}
+use Rattle.scale.specs.Scale.{Fair}
+use Rattle.scale.proofs.Passing.{over-none}
 use Rattle.programme.specs.Contract.{Contracts}
 use Rattle.events.specs.Event.{Event}
 use Rattle.year.specs.declared.Amounts.{Amounts}
+use Rattle.year.specs.declared.Standing.{Standing}
+use Rattle.year.specs.Standing.{year_of, standing_of}
 use Rattle.year.specs.Event.{Year, event_after, event_amounts, year_after}
 use Rattle.year.specs.Statement.{EventLine, event_lines, added, totals, amounts_numbers, event_numbers, event_shown}
 use Rattle.year.specs.Statement.{event_template, line_text}
 use Rattle.year.proofs.Parts.{year-append, event-lines-append}
-use Rattle.standings.specs.Tier.{places_of}
-use Rattle.standings.proofs.LentTiers.{bears_sound, places-held}
+use Rattle.standings.proofs.LentTiers.{bears_sound, spent-lent, timed-lent}
 use Rattle.losses.specs.Cede.{losses_from, ceded_added}
 use Rattle.losses.specs.Event.{loss_numbers, events_numbers}
 use Rattle.losses.proofs.EventNumbers.{losses-back, numbers-length, events-append, events-same}
 use Rattle.booking.specs.declared.book.Booked.{Booked}
-use Rattle.booking.specs.Book.{contracts_from, year_held, Lent, CanEnterEvent, EventEntered}
+use Rattle.booking.specs.declared.basis.Basis.{Basis}
+use Rattle.booking.specs.Book.{contracts_from, Lent, CanEnterEvent, EventEntered}
 use Rattle.booking.specs.Book.{RoomForMore, CanBookEvents, line_room, lines_room, ceded_through, EventsBooked}
 use Rattle.booking.proofs.Totals.{totals-next, amounts-added-le}
 use Rattle.booking.proofs.Idle.{idle_on, year-same, amounts-none, total-same}
@@ -63,45 +67,60 @@ ceded-next : (ts : List Treaty) (cs : List ℕ) (es : List Event) (x : Event)
 ceded-next ts cs [] x = refl
 ceded-next ts cs (e ∷ es) x = ceded-next ts (ceded_added ts [] cs e.losses) es x
 
+-- a standing on another day
+abbrev moved_to : ℕ → Standing → Standing
+moved_to day s = record {
+  risk = s.risk;
+  cat = s.cat;
+  day = day;
+  risk_timed = s.risk_timed;
+  cat_timed = s.cat_timed;
+}
+
 -- One event more. It came to the amounts a in the year after the others.
-module _ {shares : List ℕ} {c : Contracts} {y : Year} {first : ℕ} {es : List Event} {d₀ d ms ns cs : List ℕ}
-    {r : Booked} (b : EventsBooked shares c y first es d₀ d ms ns cs r) (e : Event) where
+module _ {b : Basis} {s : Standing} {es : List Event} {d₀ d : List ℕ} {s₁ : Standing} {cs : List ℕ} {r : Booked}
+    (k : EventsBooked b s es d₀ d s₁ cs r) (e : Event) where
+  abbrev shares : List ℕ
+  shares = b.shares.now
+
   abbrev ts : List Treaty
-  ts = c.treaties
+  ts = (contracts_from b).treaties
+
+  abbrev first : Year
+  first = year_of (contracts_from b) s
 
   abbrev now : Year
-  now = year_after shares ts y es
+  now = year_after shares ts first es
 
-  one-booked : {d' ms' ns' cs' : List ℕ} {a total : Amounts} {next : ℕ} → a ≡ event_amounts shares ts now e
-      → ms' ≡ places_of (event_after shares ts now e).risk → ns' ≡ places_of (event_after shares ts now e).cat
+  one-booked : {d' : List ℕ} {s₂ : Standing} {cs' : List ℕ} {a total : Amounts} {next : ℕ}
+      → a ≡ event_amounts shares ts now e → Lent b s₂ → year_of (contracts_from b) s₂ ≡ event_after shares ts now e
+      → s₂ ≡ standing_of (event_after shares ts now e) e.day
       → cs' ≡ ceded_added ts [] cs e.losses → total ≡ added (r.total ∷ a ∷ [])
       → Put d r.next (filled event_template (event_numbers (record { day = e.day; amounts = a })) (10 ∷ [])) d' next
       → next ≤ r.next + line_room e.losses
-      → EventsBooked shares c y first (es ++ (e ∷ [])) d₀ d' ms' ns' cs' (record {
-        total = total;
-        day = e.day;
-        next = next;
-      })
-  one-booked {d'} {next = next} is risk cat ceded is-total put room =
-      let year = year-append shares ts y es (e ∷ []) in
+      → EventsBooked b s (es ++ (e ∷ [])) d₀ d' s₂ cs' (record { total = total; next = next })
+  one-booked {d'} {next = next} is lent goes stands ceded is-total put room =
+      let year : year_after shares ts first (es ++ (e ∷ [])) ≡ event_after shares ts now e =
+      year-append shares ts first es (e ∷ []) in
       let line : EventLine = record { day = e.day; amounts = event_amounts shares ts now e } in
-      let lines : event_lines shares ts y (es ++ (e ∷ [])) ≡ event_lines shares ts y es ++ (line ∷ []) =
-      event-lines-append shares ts y es (e ∷ []) in
+      let lines : event_lines shares ts first (es ++ (e ∷ [])) ≡ event_lines shares ts first es ++ (line ∷ []) =
+      event-lines-append shares ts first es (e ∷ []) in
+      let last = last_snoc (λ (x : Event). x.day) s.day es e in
       record {
-        risk = risk ∙ ap (λ (z : Year). places_of z.risk) (sym year);
-        cat = cat ∙ ap (λ (z : Year). places_of z.cat) (sym year);
-        day = sym (last_snoc (λ (x : Event). x.day) first es e);
+        lent = lent;
+        year = goes ∙ sym year;
+        standing = stands ∙ sym (λ i. standing_of (year i) (last i));
         total =
             is-total
-            ∙ (λ i. added (b.total i ∷ is i ∷ []))
-            ∙ sym (ap totals lines ∙ totals-next (event_lines shares ts y es) line);
+            ∙ (λ i. added (k.total i ∷ is i ∷ []))
+            ∙ sym (ap totals lines ∙ totals-next (event_lines shares ts first es) line);
         lines =
-            rw (lines, text-next (event_lines shares ts y es) line)
-            (put-append b.lines
+            rw (lines, text-next (event_lines shares ts first es) line)
+            (put-append k.lines
             (subst (λ (x : Amounts). Put d r.next
             (filled event_template (event_numbers (record { day = e.day; amounts = x })) (10 ∷ [])) d' next) is put));
-        cessions = ceded ∙ rw b.cessions (sym (ceded-next ts (replicate 9 0) es e));
-        room = omega (arith, room, b.room, sum-append (λ (x : Event). line_room x.losses) es (e ∷ []));
+        cessions = ceded ∙ rw k.cessions (sym (ceded-next ts (replicate 9 0) es e));
+        room = omega (arith, room, k.room, sum-append (λ (x : Event). line_room x.losses) es (e ∷ []));
       }
 
 -- the lines' room by the numbers: an idle event has two, any other five or more
@@ -120,9 +139,8 @@ room-le (e ∷ es) =
     one (x ∷ xs) = omega arith
 
 -- The events `done` are booked, those of `ahead` have the numbers from the place `at` on.
-pub record Booking (shares register risk cat events : List ℕ) (first : ℕ) (ms₀ ns₀ d₀ ms ns cs d : List ℕ)
-    (total : Amounts) (last next at : ℕ) : Type 0 where
-  pub lent : Lent shares register risk cat ms ns
+pub record Booking (b : Basis) (events : List ℕ) (s₀ : Standing) (d₀ : List ℕ) (s : Standing) (cs d : List ℕ)
+    (total : Amounts) (next at : ℕ) : Type 0 where
   pub done : List Event
   pub ahead : List Event
   pub whole : events ≡ events_numbers (done ++ ahead)
@@ -132,22 +150,13 @@ pub record Booking (shares register risk cat events : List ℕ) (first : ℕ) (m
   pub short : length events ≤ 15124
   pub nine : length cs ≡ 9
   pub same : length d ≡ length d₀
-  pub eight-risk : length ms ≡ length ms₀
-  pub eight-cat : length ns ≡ length ns₀
-  pub year : year_held (contracts_from register risk cat) ms ns
-      ≡ year_after shares (contracts_from register risk cat).treaties
-      (year_held (contracts_from register risk cat) ms₀ ns₀) done
-  pub booked : EventsBooked shares (contracts_from register risk cat)
-      (year_held (contracts_from register risk cat) ms₀ ns₀) first done d₀ d ms ns cs
-      (record { total = total; day = last; next = next })
+  pub booked : EventsBooked b s₀ done d₀ d s cs (record { total = total; next = next })
   pub totals-le : Each (λ (n : ℕ). n ≤ 13 * 10 ^ 13 * at) (amounts_numbers total)
   pub cessions-le : Each (λ (n : ℕ). n ≤ 10 ^ 13 * at) cs
 
-pub booking_begins : {shares register risk cat events : List ℕ} {first : ℕ} {ms ns cs d : List ℕ} {total : Amounts}
-    → CanBookEvents shares register risk cat events ms ns cs → total ≡ added []
-    → Booking shares register risk cat events first ms ns d ms ns cs d total first 0 0
-booking_begins {d = d} h z = record {
-  lent = h.lent;
+pub booking_begins : {b : Basis} {events : List ℕ} {s : Standing} {cs d : List ℕ} {total : Amounts}
+    → CanBookEvents b events s cs → total ≡ added [] → Booking b events s d s cs d total 0 0
+booking_begins {s = s} {d = d} h z = record {
   done = [];
   ahead = h.es;
   whole = h.held;
@@ -157,13 +166,16 @@ booking_begins {d = d} h z = record {
   short = h.short;
   nine = rw h.cessions refl;
   same = refl;
-  eight-risk = refl;
-  eight-cat = refl;
-  year = refl;
   booked = record {
-    risk = places-held h.lent.risk;
-    cat = places-held h.lent.cat;
-    day = refl;
+    lent = h.lent;
+    year = refl;
+    standing = λ i. record {
+      risk = spent-lent h.lent.risk i;
+      cat = spent-lent h.lent.cat i;
+      day = s.day;
+      risk_timed = timed-lent h.lent.risk i;
+      cat_timed = timed-lent h.lent.cat i;
+    };
     total = z;
     lines = put-none d 0;
     cessions = h.cessions;
@@ -182,17 +194,16 @@ room_of_losses : (xs : List Loss) → (length xs ≡ 0 → ⊥) → line_room xs
 room_of_losses [] h = absurd (h refl)
 room_of_losses (x ∷ xs) h = refl
 
-module _ {shares register risk cat events : List ℕ} {first : ℕ} {ms₀ ns₀ d₀ ms ns cs d : List ℕ} {total : Amounts}
-    {last next at : ℕ}
-    (g : Booking shares register risk cat events first ms₀ ns₀ d₀ ms ns cs d total last next at) where
+module _ {b : Basis} {events : List ℕ} {s₀ : Standing} {d₀ : List ℕ} {s : Standing} {cs d : List ℕ} {total : Amounts}
+    {next at : ℕ} (g : Booking b events s₀ d₀ s cs d total next at) where
   abbrev c : Contracts
-  c = contracts_from register risk cat
+  c = contracts_from b
 
   abbrev y₀ : Year
-  y₀ = year_held c ms₀ ns₀
+  y₀ = year_of c s₀
 
   abbrev y : Year
-  y = year_held c ms ns
+  y = year_of c s
 
   left : drop at events ≡ events_numbers g.ahead
   left =
@@ -213,13 +224,12 @@ module _ {shares register risk cat events : List ℕ} {first : ℕ} {ms₀ ns₀
 
   -- no event is ahead
   pub all-booked : length events ≤ at → (es : List Event) → events ≡ events_numbers es
-      → EventsBooked shares c y₀ first es d₀ d ms ns cs (record { total = total; day = last; next = next })
+      → EventsBooked b s₀ es d₀ d s cs (record { total = total; next = next })
   all-booked h es q =
       let none : g.ahead ≡ [] = no-numbers g.ahead (omega (arith, ap length left, length-drop at events)) in
       let all : g.done ≡ es =
       events-same g.done es (ap events_numbers (sym (append-nil g.done)) ∙ (rw none at (sym g.whole)) ∙ q) in
-      subst (λ (fs : List Event). EventsBooked shares c y₀ first fs d₀ d ms ns cs
-      (record { total = total; day = last; next = next })) all g.booked
+      subst (λ (fs : List Event). EventsBooked b s₀ fs d₀ d s cs (record { total = total; next = next })) all g.booked
     where
       no-numbers : (es : List Event) → length (events_numbers es) ≤ 0 → es ≡ []
       no-numbers [] h = refl
@@ -291,9 +301,6 @@ module _ {shares register risk cat events : List ℕ} {first : ℕ} {ms₀ ns₀
       pub end-inside : end ≤ length events
       end-inside = omega (arith, long, counted, is-from, is-end)
 
-      pub from-inside : from ≤ end
-      from-inside = omega (arith, is-end)
-
       pub less_ahead : length events - end < length events - at
       less_ahead = omega (arith, end-inside, is-from, is-end)
 
@@ -314,9 +321,9 @@ module _ {shares register risk cat events : List ℕ} {first : ℕ} {ms₀ ns₀
       small : (ks : List ℕ) (b : ℕ) → b ≤ 2 ^ 62 → Each (λ (m : ℕ). m ≤ b) ks → Each (λ (m : ℕ). m ≤ 2 ^ 62) ks
       small ks b h = each_so (λ (m : ℕ). m ≤ b) (λ (m : ℕ). m ≤ 2 ^ 62) (λ m i. omega arith) ks
 
-      pub can_enter : CanEnterEvent shares register risk cat slice ms ns cs
+      pub can_enter : CanEnterEvent b slice s cs
       can_enter = record {
-        lent = g.lent;
+        lent = g.booked.lent;
         losses = rw losses_are (rw a.is at g.losses).0;
         few = rw losses_are few-losses;
         nine = g.nine;
@@ -338,16 +345,13 @@ module _ {shares register risk cat events : List ℕ} {first : ℕ} {ms₀ ns₀
           )
 
       -- what does not depend on how it was booked
-      goes_on : {ms' ns' cs' d' : List ℕ} {total' : Amounts} {next' : ℕ} → Lent shares register risk cat ms' ns'
-          → length cs' ≡ 9 → length d' ≡ length d → length ms' ≡ length ms → length ns' ≡ length ns
-          → year_held c ms' ns' ≡ event_after shares c.treaties y e
-          → EventsBooked shares c y₀ first (g.done ++ (e ∷ [])) d₀ d' ms' ns' cs'
-          (record { total = total'; day = e.day; next = next' })
+      goes_on : {s' : Standing} {cs' d' : List ℕ} {total' : Amounts} {next' : ℕ}
+          → length cs' ≡ 9 → length d' ≡ length d
+          → EventsBooked b s₀ (g.done ++ (e ∷ [])) d₀ d' s' cs' (record { total = total'; next = next' })
           → Each (λ (n : ℕ). n ≤ 13 * 10 ^ 13 * end) (amounts_numbers total')
           → Each (λ (n : ℕ). n ≤ 10 ^ 13 * end) cs'
-          → Booking shares register risk cat events first ms₀ ns₀ d₀ ms' ns' cs' d' total' day next' end
-      goes_on {ms'} {ns'} {cs'} {d'} {total'} {next'} l nine same er ec year booked t s = record {
-        lent = l;
+          → Booking b events s₀ d₀ s' cs' d' total' next' end
+      goes_on nine same booked t l = record {
         done = g.done ++ (e ∷ []);
         ahead = a.others;
         whole =
@@ -360,17 +364,13 @@ module _ {shares register risk cat events : List ℕ} {first : ℕ} {ms₀ ns₀
         short = g.short;
         nine = nine;
         same = same ∙ g.same;
-        eight-risk = er ∙ g.eight-risk;
-        eight-cat = ec ∙ g.eight-cat;
-        year =
-            year
-            ∙ ap (λ (z : Year). event_after shares c.treaties z e) g.year
-            ∙ sym (year-append shares c.treaties y₀ g.done (e ∷ []));
-        booked = subst (λ (k : ℕ). EventsBooked shares c y₀ first (g.done ++ (e ∷ [])) d₀ d' ms' ns' cs'
-            (record { total = total'; day = k; next = next' })) (sym dated) booked;
+        booked = booked;
         totals-le = t;
-        cessions-le = s;
+        cessions-le = l;
       }
+
+      abbrev then : Year
+      then = year_after b.shares.now c.treaties y₀ g.done
 
       wider : (ks : List ℕ) (b : ℕ) → Each (λ (m : ℕ). m ≤ b * at) ks → Each (λ (m : ℕ). m ≤ b * end) ks
       wider ks b =
@@ -385,77 +385,71 @@ module _ {shares register risk cat events : List ℕ} {first : ℕ} {ms₀ ns₀
         is-idle : idle_on e.day ≡ e
         is-idle i = record { day = e.day; losses = sym no-loss i }
 
+        fair : Fair b.shares.now
+        fair = over-none b.shares.now b.fair
+
         sound : Each Sound y.cat
-        sound = bears_sound g.lent.cat
+        sound = bears_sound g.booked.lent.cat
 
-        year-stays : y ≡ event_after shares c.treaties y e
+        year-stays : y ≡ event_after b.shares.now c.treaties y e
         year-stays =
-            year-same shares g.lent.fair c.treaties y sound e.day
-            ∙ ap (event_after shares c.treaties y) is-idle
+            year-same b.shares.now fair c.treaties y sound e.day
+            ∙ ap (event_after b.shares.now c.treaties y) is-idle
 
-        now-stays : year_after shares c.treaties y₀ g.done
-            ≡ event_after shares c.treaties (year_after shares c.treaties y₀ g.done) e
-        now-stays = subst (λ (z : Year). z ≡ event_after shares c.treaties z e) g.year year-stays
+        then-stays : then ≡ event_after b.shares.now c.treaties then e
+        then-stays =
+            subst (λ (z : Year). z ≡ event_after b.shares.now c.treaties z e) g.booked.year year-stays
 
-        nothing : added [] ≡ event_amounts shares c.treaties (year_after shares c.treaties y₀ g.done) e
+        nothing : added [] ≡ event_amounts b.shares.now c.treaties then e
         nothing =
-            amounts-none shares g.lent.fair c.treaties y sound e.day
-            ∙ (λ i. event_amounts shares c.treaties (g.year i) (is-idle i))
+            amounts-none b.shares.now fair c.treaties y sound e.day
+            ∙ (λ i. event_amounts b.shares.now c.treaties (g.booked.year i) (is-idle i))
 
         pub one-idle : {d' : List ℕ} {next' : ℕ}
             → Put d next (filled event_template (event_numbers (record { day = day; amounts = added [] })) (10 ∷ [])) d'
             next'
             → next' ≤ next + 86 → length d' ≡ length d
-            → Booking shares register risk cat events first ms₀ ns₀ d₀ ms ns cs d' total day next' end
+            → Booking b events s₀ d₀ (moved_to day s) cs d' total next' end
         one-idle put room same =
-            goes_on g.lent g.nine same refl refl year-stays
-            (one-booked g.booked e nothing
-            (g.booked.risk ∙ ap (λ (z : Year). places_of z.risk) now-stays)
-            (g.booked.cat ∙ ap (λ (z : Year). places_of z.cat) now-stays)
+            goes_on g.nine same
+            (one-booked g.booked e nothing (record { risk = g.booked.lent.risk; cat = g.booked.lent.cat })
+            (g.booked.year ∙ then-stays)
+            (ap (moved_to day) g.booked.standing ∙ (λ i. standing_of (then-stays i) (dated i)))
             (ap (λ (zs : List Loss). ceded_added c.treaties [] cs zs) (sym no-loss)) (total-same total)
             (rw dated at put) (rw no-loss room))
             (wider (amounts_numbers total) (13 * 10 ^ 13) g.totals-le) (wider cs (10 ^ 13) g.cessions-le)
 
       -- an event with losses
-      module _ (some : count ≡ 0 → ⊥) {ms' ns' cs' : List ℕ} {r : Amounts}
-          (entered : EventEntered shares c y (record { day = day; losses = losses_from slice }) ms' ns' cs cs' r) where
+      module _ (some : count ≡ 0 → ⊥) {s' : Standing} {cs' : List ℕ} {r : Amounts}
+          (entered : EventEntered b s (record { day = day; losses = losses_from slice }) s' cs cs' r) where
         pub room_for : RoomForMore total × RoomForMore r
         room_for = (
           small (amounts_numbers total) (13 * 10 ^ 13 * at) (omega (arith, within, g.short)) g.totals-le,
           small (amounts_numbers r) (64 * 10 ^ 13) (omega arith) (entered-amounts-le can_enter day entered),
         )
 
-        abbrev ts' : List Treaty
-        ts' = c.treaties
-
-        abbrev then : Year
-        then = year_after shares ts' y₀ g.done
-
         is-event : record { day = day; losses = losses_from slice } ≡ e
         is-event i = record { day = dated i; losses = losses_are i }
 
-        came_to : r ≡ event_amounts shares ts' then e
-        came_to = entered.amounts ∙ (λ i. event_amounts shares ts' (g.year i) (is-event i))
+        came_to : r ≡ event_amounts b.shares.now c.treaties then e
+        came_to = entered.amounts ∙ (λ i. event_amounts b.shares.now c.treaties (g.booked.year i) (is-event i))
 
-        leads_to : event_after shares ts' y (record { day = day; losses = losses_from slice })
-            ≡ event_after shares ts' y e
-        leads_to = ap (event_after shares ts' y) is-event
+        leads_to : event_after b.shares.now c.treaties y (record { day = day; losses = losses_from slice })
+            ≡ event_after b.shares.now c.treaties then e
+        leads_to i = event_after b.shares.now c.treaties (g.booked.year i) (is-event i)
 
-        leads_then : event_after shares ts' y (record { day = day; losses = losses_from slice })
-            ≡ event_after shares ts' then e
-        leads_then = leads_to ∙ ap (λ (z : Year). event_after shares ts' z e) g.year
+        lent-then : Lent b (moved_to day s')
+        lent-then = let l = entered-lent can_enter day entered in record { risk = l.risk; cat = l.cat }
 
         pub one-entered : {d' : List ℕ} {total' : Amounts} {next' : ℕ} → total' ≡ added (total ∷ r ∷ [])
             → Put d next (filled event_template (event_numbers (record { day = day; amounts = r })) (10 ∷ [])) d' next'
-            → next' ≤ next + 200 → length d' ≡ length d → length ms' ≡ length ms → length ns' ≡ length ns
-            → Booking shares register risk cat events first ms₀ ns₀ d₀ ms' ns' cs' d' total' day next' end
-        one-entered {total' = total'} is put room same er ec =
-            goes_on (entered-lent can_enter day entered) (entered-nine can_enter day entered) same er ec
-            (entered-year can_enter day entered ∙ leads_to)
-            (one-booked g.booked e came_to
-            (entered.risk ∙ ap (λ (z : Year). places_of z.risk) leads_then)
-            (entered.cat ∙ ap (λ (z : Year). places_of z.cat) leads_then)
-            (entered.cessions ∙ ap (λ (zs : List Loss). ceded_added ts' [] cs zs) losses_are) is
+            → next' ≤ next + 200 → length d' ≡ length d
+            → Booking b events s₀ d₀ (moved_to day s') cs' d' total' next' end
+        one-entered is put room same =
+            goes_on (entered-nine can_enter day entered) same
+            (one-booked g.booked e came_to lent-then (entered-year can_enter day entered ∙ leads_to)
+            (ap (moved_to day) entered.standing ∙ (λ i. standing_of (leads_to i) (dated i)))
+            (entered.cessions ∙ ap (λ (zs : List Loss). ceded_added c.treaties [] cs zs) losses_are) is
             (rw dated at put) (rw (room_of_losses xs (λ z. some (counted ∙ z))) room))
             (rw is
             (amounts-added-le (13 * 10 ^ 13 * at) (64 * 10 ^ 13) (13 * 10 ^ 13 * end) total r

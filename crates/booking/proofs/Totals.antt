@@ -4,47 +4,10 @@ use mathlib.Core.Path.{◌≡◌, ◌∙◌}
 use mathlib.Core.List.{List, [], ◌∷◌, ◌++◌}
 use Prim.Native.Nat.{ℕ, ◌+◌, ◌≤◌}
 use native.Mathlib.Omega.{arith}
-use mir.Syntax.{w64}
-use mir.Val.{Fits}
 use Rattle.lists.specs.Each.{Each}
 use Rattle.year.specs.declared.Amounts.{Amounts}
 use Rattle.year.specs.Statement.{EventLine, added, totals, amounts_numbers}
 use Rattle.year.proofs.Parts.{totals-append}
-use Rattle.booking.specs.Book.{RoomForMore}
-
--- amounts, added one by one
-pub added-both : (a b : Amounts)
-    → record {
-      gross = a.gross + b.gross;
-      ceded = a.ceded + b.ceded;
-      risk = a.risk + b.risk;
-      cat = a.cat + b.cat;
-      net = a.net + b.net;
-      premium = a.premium + b.premium;
-    }
-    ≡ added (a ∷ b ∷ [])
-added-both a b j = record {
-  gross = alone a.gross b.gross j;
-  ceded = alone a.ceded b.ceded j;
-  risk = alone a.risk b.risk j;
-  cat = alone a.cat b.cat j;
-  net = alone a.net b.net j;
-  premium = alone a.premium b.premium j;
-}
-  where
-    alone : (m n : ℕ) → m + n ≡ m + (n + 0)
-    alone m n = omega arith
-
--- none of the last three sums passes a word
-module _ (a b : Amounts) (h : RoomForMore a × RoomForMore b) where
-  pub cat-fits : Fits w64 (a.cat + b.cat)
-  cat-fits = omega (arith, h.0, h.1)
-
-  pub net-fits : Fits w64 (a.net + b.net)
-  net-fits = omega (arith, h.0, h.1)
-
-  pub premiums-fit : Fits w64 (a.premium + b.premium)
-  premiums-fit = omega (arith, h.0, h.1)
 
 -- the totals with those of one event more
 pub totals-next : (ls : List EventLine) (l : EventLine) → totals (ls ++ (l ∷ [])) ≡ added (totals ls ∷ l.amounts ∷ [])

@@ -1,5 +1,5 @@
 -- Document 01, Layers, last paragraph, and Events and statement, with document 02's Q-4: what the events of a run take
--- to be booked, and what they leave, from lent contracts, time shares and a standing's numbers of each tier.
+-- to be booked, and what they leave, by lent contracts and time shares, from a standing on.
 -- Assumes nothing.
 use Rattle.std.specs.Prelude.{◌≡◌, List, [], ◌∷◌, map, ℕ, ◌^◌, ◌≤◌, length, replicate}
 use Rattle.lists.specs.Sums.{sum_of}
@@ -9,62 +9,56 @@ use Rattle.text.specs.Lines.{joined}
 use Rattle.treaty.specs.declared.Treaty.{Treaty}
 use Rattle.treaty.specs.declared.Loss.{Loss}
 use Rattle.treaty.specs.Ranges.{LossInRange}
-use Rattle.layer.specs.Numbers.{tier_from}
-use Rattle.scale.specs.Scale.{Fair}
 use Rattle.programme.specs.Contract.{Contracts}
 use Rattle.events.specs.Event.{Event, last_day}
 use Rattle.year.specs.declared.Amounts.{Amounts}
 use Rattle.year.specs.Event.{Year, event_after, event_amounts, year_after}
-use Rattle.year.specs.Standing.{layers_held}
-use Rattle.year.specs.Statement.{event_lines, totals, amounts_numbers, event_shown, line_text}
-use Rattle.standings.specs.Tier.{places_of, CanBear}
+use Rattle.year.specs.declared.Standing.{Standing}
+use Rattle.year.specs.Standing.{year_of, standing_of}
+use Rattle.year.specs.Statement.{EventLine, event_lines, totals, amounts_numbers, event_shown, line_text}
+use Rattle.standings.specs.Tier.{CanBear}
 use Rattle.losses.specs.Cede.{losses_from, ceded_added}
-use Rattle.losses.specs.Treaties.{treaties_from, Registered}
+use Rattle.losses.specs.Treaties.{treaties_from}
 use Rattle.losses.specs.Event.{events_numbers}
+use Rattle.booking.specs.declared.basis.Basis.{Basis}
 use Rattle.booking.specs.declared.book.Booked.{Booked}
 
--- contracts from their numbers
-abbrev pub contracts_from : (register risk cat : List ℕ) → Contracts
-contracts_from register risk cat =
-    record { treaties = treaties_from register; risk = tier_from risk; cat = tier_from cat }
+-- the contracts that a run goes by
+abbrev pub contracts_from : Basis → Contracts
+contracts_from b = record { treaties = treaties_from b.register.now; risk = b.risk.now; cat = b.cat.now }
 
--- the year of contracts and a standing's numbers of two tiers
-abbrev pub year_held : Contracts → (ms ns : List ℕ) → Year
-year_held c ms ns = record { risk = layers_held c.risk ms; cat = layers_held c.cat ns }
-
--- contracts that a table may have, time shares of which none is above the whole, and numbers of two tiers that a
--- standing of these contracts may have
-pub record Lent (shares treaties risks cats ms ns : List ℕ) : Type 0 where
-  pub fair : Fair shares
-  pub register : Registered treaties
-  pub risk : CanBear risks ms
-  pub cat : CanBear cats ns
+-- layers that a table may have, and a standing that these may have
+pub record Lent (b : Basis) (s : Standing) : Type 0 where
+  pub risk : CanBear b.risk.now s.risk s.risk_timed
+  pub cat : CanBear b.cat.now s.cat s.cat_timed
 
 -- What an event takes: at most 64 losses in range, and a place for each number T whose amount leaves room for what is
 -- ceded.
-pub record CanEnterEvent (shares register risk cat ls ms ns cs : List ℕ) : Type 0 where
-  pub lent : Lent shares register risk cat ms ns
+pub record CanEnterEvent (b : Basis) (ls : List ℕ) (s : Standing) (cs : List ℕ) : Type 0 where
+  pub lent : Lent b s
   pub losses : Each LossInRange (losses_from ls)
   pub few : length (losses_from ls) ≤ 64
   pub nine : length cs ≡ 9
   pub amounts : Each (λ (n : ℕ). n ≤ 2 ^ 62) cs
 
--- The event e came to r in the year y. The numbers of the tiers after it are ms' and ns', and what each treaty cedes
--- was added to its place of cs, which are cs' then.
-pub record EventEntered (shares : List ℕ) (c : Contracts) (y : Year) (e : Event) (ms' ns' cs cs' : List ℕ)
-    (r : Amounts) : Type 0 where
-  pub amounts : r ≡ event_amounts shares c.treaties y e
-  pub risk : ms' ≡ places_of (event_after shares c.treaties y e).risk
-  pub cat : ns' ≡ places_of (event_after shares c.treaties y e).cat
-  pub cessions : cs' ≡ ceded_added c.treaties [] cs e.losses
+-- The event e came to r in the year of the standing s. After it, before the day is moved on, the standing is s', and
+-- what each treaty cedes was added to its place of cs, which are cs' then.
+pub record EventEntered (b : Basis) (s : Standing) (e : Event) (s' : Standing) (cs cs' : List ℕ) (r : Amounts) : Type 0
+  where
+    pub amounts : r
+        ≡ event_amounts b.shares.now (contracts_from b).treaties (year_of (contracts_from b) s) e
+    pub standing : s'
+        ≡ standing_of
+        (event_after b.shares.now (contracts_from b).treaties (year_of (contracts_from b) s) e) s.day
+    pub cessions : cs' ≡ ceded_added (contracts_from b).treaties [] cs e.losses
 
 -- amounts with room for those of an event more
 abbrev pub RoomForMore : Amounts → Type 0
 RoomForMore a = Each (λ (n : ℕ). n ≤ 2 ^ 62) (amounts_numbers a)
 
 -- what events take: as numbers they are at most those of a text of 65,536 bytes, three for 13 bytes
-pub record CanBookEvents (shares register risk cat events ms ns cs : List ℕ) : Type 0 where
-  pub lent : Lent shares register risk cat ms ns
+pub record CanBookEvents (b : Basis) (events : List ℕ) (s : Standing) (cs : List ℕ) : Type 0 where
+  pub lent : Lent b s
   pub es : List Event
   pub held : events ≡ events_numbers es
   pub losses : Each (λ (e : Event). Each LossInRange e.losses) es
@@ -85,14 +79,22 @@ abbrev pub ceded_through : List Treaty → List ℕ → List Event → List ℕ
 ceded_through ts cs [] = cs
 ceded_through ts cs (e ∷ es) = ceded_through ts (ceded_added ts [] cs e.losses) es
 
--- The events es were booked from the year y and the day `last` on, and their lines put into d, which is d' then. The
--- numbers of the tiers are ms' and ns', what each treaty cedes is in its place of cs', and r is what else is left.
-pub record EventsBooked (shares : List ℕ) (c : Contracts) (y : Year) (last : ℕ) (es : List Event)
-    (d d' ms' ns' cs' : List ℕ) (r : Booked) : Type 0 where
-  pub risk : ms' ≡ places_of (year_after shares c.treaties y es).risk
-  pub cat : ns' ≡ places_of (year_after shares c.treaties y es).cat
-  pub day : r.day ≡ last_day last es
-  pub total : r.total ≡ totals (event_lines shares c.treaties y es)
-  pub lines : Put d 0 (joined (map line_text (map event_shown (event_lines shares c.treaties y es)))) d' r.next
-  pub cessions : cs' ≡ ceded_through c.treaties (replicate 9 0) es
+-- the year after events from a standing on
+abbrev pub year_then : Basis → Standing → List Event → Year
+year_then b s es = year_after b.shares.now (contracts_from b).treaties (year_of (contracts_from b) s) es
+
+-- the lines of these events
+abbrev pub lines_then : Basis → Standing → List Event → List EventLine
+lines_then b s es = event_lines b.shares.now (contracts_from b).treaties (year_of (contracts_from b) s) es
+
+-- The events es were booked from the standing s on, and their lines put into d, which is d' then. The standing is s',
+-- what each treaty cedes is in its place of cs', and r is what else is left.
+pub record EventsBooked (b : Basis) (s : Standing) (es : List Event) (d d' : List ℕ) (s' : Standing) (cs' : List ℕ)
+    (r : Booked) : Type 0 where
+  pub lent : Lent b s'
+  pub year : year_of (contracts_from b) s' ≡ year_then b s es
+  pub standing : s' ≡ standing_of (year_then b s es) (last_day s.day es)
+  pub total : r.total ≡ totals (lines_then b s es)
+  pub lines : Put d 0 (joined (map line_text (map event_shown (lines_then b s es)))) d' r.next
+  pub cessions : cs' ≡ ceded_through (contracts_from b).treaties (replicate 9 0) es
   pub room : r.next ≤ lines_room es

@@ -4,7 +4,7 @@
 use mathlib.Core.Path.{◌≡◌, sym, ap, ◌∙◌}
 use mathlib.Core.Bool.{Bool, true, false}
 use mathlib.Core.List.{List, [], ◌∷◌}
-use mathlib.Core.Option.{Option, none, some}
+use Rattle.std.specs.Prelude.{Option, None, Some}
 use Prim.Native.Nat.{ℕ, zero, suc, ◌+◌, ◌≤◌, ◌<◌}
 use native.Mathlib.Omega.{arith}
 use lib.Dec.{ltb}
@@ -42,8 +42,8 @@ unless_told (suc n) w e r h = omega arith
 lines-told : (ts : List Treaty) (w d : ℕ) (fs : List (Option Event)) → Told (read_from ts w d fs)
 unfolding read_from
 lines-told ts w d [] = tt
-lines-told ts w d (none ∷ fs) = omega arith
-lines-told ts w d (some e ∷ fs) =
+lines-told ts w d (None ∷ fs) = omega arith
+lines-told ts w d (Some e ∷ fs) =
     unless_told (event_fault ts d e) w e (read_from ts (w + 1) e.day fs) (lines-told ts (w + 1) e.day fs)
 
 text-told : (ts : List Treaty) (d : ℕ) (s : List ℕ) → Told (events_of ts d s)

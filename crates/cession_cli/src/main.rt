@@ -9,9 +9,8 @@ use std::fs::File;
 use std::io::Read;
 use year::Standing;
 
-mod input;
-
-// Bytes to standard output. What cannot be written there is let go: the program goes on.
+// Bytes to standard output. What cannot be written there is let go: the program goes on. No clause can tell
+// what is printed, so that a crate for these lines would promise nothing: each program has its own.
 fn words(rt: &impl Print, text: &[u8]) {
     let _ = rt.write_all(text);
 }
@@ -33,13 +32,12 @@ fn refuse(rt: &impl Print, refusal: u64, number: u64) {
 // A table of 8,192 bytes is accepted: one byte more is read, so that a longer one is refused and not cut.
 fn run_file(rt: &(impl Print + Input), mut file: impl Read + Drop) {
     let mut table = [0u8; table::TABLE_BYTES + 1];
-    let text = input::fill(&mut file, &mut table);
+    let read = input_text::fill(&mut file, &mut table);
     drop(file);
-    if text.failed {
-        refuse(rt, 0, 0);
-        return;
+    match read {
+        Ok(size) => run_table(rt, &table[..size]),
+        Err(_) => refuse(rt, 0, 0),
     }
-    run_table(rt, &table[..text.size]);
 }
 
 // A year opened for a table's programme.
@@ -60,12 +58,10 @@ fn run_table(rt: &(impl Print + Input), table: &[u8]) {
 // Events of 65,536 bytes are accepted: one byte more is read here too.
 fn run_year(rt: &(impl Print + Input), programme: Programme, standing: Standing) {
     let mut events = [0u8; rule::EVENTS_BYTES + 1];
-    let text = input::fill(&mut rt.reader(), &mut events);
-    if text.failed {
-        refuse(rt, 0, 0);
-        return;
+    match input_text::fill(&mut rt.reader(), &mut events) {
+        Ok(size) => run_events(rt, programme, standing, &events[..size]),
+        Err(_) => refuse(rt, 0, 0),
     }
-    run_events(rt, programme, standing, &events[..text.size]);
 }
 
 // The statement of a run, or its refusal. The run is the one by value below `cession_run`: no standing is lent here.

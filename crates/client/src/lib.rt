@@ -21,7 +21,8 @@ use scale_text::ScaleReading;
 use table_text::Reading;
 use year::{Opening, Standing};
 
-// What a run answers, and the standing that it leaves.
+// What a run answers, and the standing that it leaves: the engine has such a struct, and a client of the public calls
+// does not know it.
 #[derive(Clone, Copy)]
 pub struct After {
     pub answer: Answer,

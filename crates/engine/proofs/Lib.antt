@@ -1,6 +1,5 @@
 pub mod Stating
 pub mod Writing
 pub mod RunLines
-pub mod Placing
 pub mod RunTests
 pub mod LayingOut

@@ -3,7 +3,7 @@
 use mathlib.Core.Path.{◌≡◌, refl, sym, ap, ◌∙◌}
 use mathlib.Core.Bool.{true, false}
 use mathlib.Core.List.{List, [], ◌∷◌, ◌++◌}
-use mathlib.Core.Option.{Option, none, some}
+use Rattle.std.specs.Prelude.{Option, None, Some}
 use Prim.Native.Nat.{ℕ, zero, suc, ◌-◌, ◌≤◌}
 use native.Mathlib.Omega.{arith}
 use borrow.Author.Tests.{ne_eqb}
@@ -15,8 +15,6 @@ use Rattle.text.specs.Template.{capital, holes, matched}
 use Rattle.text.proofs.Begins.{matched-other-beginning}
 use Rattle.text.proofs.Feeds.{NoFeed, feedless}
 use Rattle.text.proofs.FirstLine.{before, matched-line}
-use Rattle.events.specs.declared.form.Head.TheVariants.{Day}
-use Rattle.events.specs.declared.form.LossForm.TheVariants as form
 use Rattle.events.specs.Event.{event_text, loss_text, loss_from, closes}
 use Rattle.events.specs.Form.{head_from, head_of, loss_form_from, loss_at}
 use Rattle.events.proofs.LineEnds.{line_ending, begins-other, begins-same}
@@ -31,11 +29,11 @@ head_in_line l r z = rw (matched-line [] event_text l r refl z) (by-found (match
   where
     by-found : (o : Option (List ℕ × List ℕ))
         → head_from (length (l ++ (10 ∷ r))) (before (10 ∷ r) o) ≡ head_from (length l) o
-    by-found none = refl
-    by-found (some p) =
+    by-found None = refl
+    by-found (Some p) =
         let same : length (l ++ (10 ∷ r)) - length (p.1 ++ (10 ∷ r)) ≡ length l - length p.1 =
         omega (arith, length-append l (10 ∷ r), length-append p.1 (10 ∷ r)) in
-        ap (Day (get_or p.0 0 0)) same
+        ap (λ (k : ℕ). Some (get_or p.0 0 0, k)) same
 
 -- a loss form of it
 pub loss_in_line : (l r : List ℕ) (at : ℕ) → NoFeed (drop at l) → at ≤ length l
@@ -47,11 +45,11 @@ loss_in_line l r at z h =
   where
     by-found : (o : Option (List ℕ × List ℕ))
         → loss_form_from (length (l ++ (10 ∷ r))) (before (10 ∷ r) o) ≡ loss_form_from (length l) o
-    by-found none = refl
-    by-found (some p) =
+    by-found None = refl
+    by-found (Some p) =
         let same : length (l ++ (10 ∷ r)) - length (p.1 ++ (10 ∷ r)) ≡ length l - length p.1 =
         omega (arith, length-append l (10 ∷ r), length-append p.1 (10 ∷ r)) in
-        ap (form.Loss (loss_from p.0)) same
+        ap (λ (k : ℕ). Some (loss_from p.0, k)) same
 
 -- a place without a line feed after it
 pub clean_from : (at : ℕ) (l : List ℕ) → NoFeed l → NoFeed (drop at l)
@@ -67,7 +65,7 @@ space_left (b ∷ []) r h = by-eq b 32 (λ e. rw e) (λ e. never (begins-other 3
 space_left (b ∷ a ∷ x) r h = refl
 
 -- no space is left: no loss form either
-pub no-loss-left : (x r : List ℕ) → begins (32 ∷ []) (x ++ (10 ∷ r)) ≡ false → matched [] loss_text x ≡ none
+pub no-loss-left : (x r : List ℕ) → begins (32 ∷ []) (x ++ (10 ∷ r)) ≡ false → matched [] loss_text x ≡ None
 unfolding begins holes capital
 no-loss-left x r h = matched-other-beginning (32 ∷ []) _ [] x refl (in_line x h)
   where

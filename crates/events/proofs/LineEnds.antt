@@ -1,16 +1,15 @@
 -- The bracket and the line feed that end a line.
 -- Assumes nothing.
-use mathlib.Core.Path.{◌≡◌, refl, sym, ap, ◌∙◌}
-use mathlib.Core.Bool.{true, false}
+use mathlib.Core.Path.{◌≡◌, refl, sym, ◌∙◌}
+use mathlib.Core.Bool.{Bool, true, false}
 use mathlib.Core.List.{List, [], ◌∷◌}
-use Prim.Native.Nat.{ℕ, suc, ◌+◌, ◌≤◌, ◌<◌}
+use Prim.Native.Nat.{ℕ, ◌+◌}
 use native.Mathlib.Omega.{arith}
 use borrow.Author.Tests.{eq-eqb, ne_eqb}
-use lib.Dec.{eqb}
-use lib.ListN.{length, drop, get_or, drop_of_length-le}
-use lib.Seq.{drop-cons}
-use Rattle.lists.proofs.Cases.{by-lt, by-eq}
-use Rattle.text.specs.Begin.{begins}
+use lib.ListN.{drop}
+use lib.Seq.{drop-drop}
+use Rattle.lists.proofs.Cases.{by-eq}
+use Rattle.text.specs.Begin.{begins, Stands}
 use Rattle.text.specs.Bytes.{bytes}
 
 -- the two bytes that end a line
@@ -25,41 +24,32 @@ pub begins-same : (b : ℕ) (u x : List ℕ) → begins u x ≡ begins (b ∷ u)
 unfolding begins
 begins-same b u x = let same : b ≡ b = refl in sym (simp (begins, eq-eqb b b same))
 
-ended : (x : List ℕ) → true ≡ begins line_ending (41 ∷ 10 ∷ x)
+-- what the first byte says of the beginning, where it stands and where it does not
+begun : (x : List ℕ) → true ≡ begins (41 ∷ []) x → begins (10 ∷ []) (drop 1 x) ≡ begins line_ending x
 unfolding begins
-ended x = refl
+begun [] e = let z : ◌≡◌ {A = ℕ} 1 0 = cc in absurd (omega arith)
+begun (a ∷ x) e =
+    by-eq a 41 (λ q. rw q (begins-same 41 (10 ∷ []) x))
+    (λ q. absurd (apart (e ∙ sym (begins-other 41 a [] x q))))
+  where
+    apart : true ≡ false → ⊥
+    apart e = let z : ◌≡◌ {A = ℕ} 1 0 = cc in omega arith
 
-module _ (s : List ℕ) (at : ℕ) where
-  module _ (more : at + 1 < length s) where
-    two_bytes : drop at s ≡ get_or s at 0 ∷ get_or s (at + 1) 0 ∷ drop (suc (suc at)) s
-    two_bytes =
-        let next : suc at ≡ at + 1 = omega arith in
-        drop-cons s at 0 (omega arith)
-        ∙ ap (λ (x : List ℕ). get_or s at 0 ∷ x)
-        (drop-cons s (suc at) 0 (omega arith)
-        ∙ ap (λ (k : ℕ). get_or s k 0 ∷ drop (suc (suc at)) s) next)
+not_begun : (x : List ℕ) → false ≡ begins (41 ∷ []) x → false ≡ begins line_ending x
+unfolding begins
+not_begun [] e = refl
+not_begun (a ∷ x) e =
+    by-eq a 41 (λ q. absurd (apart (e ∙ rw q (sym (begins-same 41 [] x))))) (λ q. begins-other 41 a (10 ∷ []) x q)
+  where
+    apart : false ≡ true → ⊥
+    apart e = let z : ◌≡◌ {A = ℕ} 0 1 = cc in omega arith
 
-    -- the bracket, and a line feed or not
-    pub ends-by-feed : get_or s at 0 ≡ 41 → eqb (get_or s (at + 1) 0) 10 ≡ begins line_ending (drop at s)
-    ends-by-feed b =
-        by-eq (get_or s (at + 1) 0) 10
-        (λ e. rw (two_bytes, b, e) (ended (drop (suc (suc at)) s)))
-        (λ e.
-        rw (two_bytes, b, ne_eqb _ _ e)
-        (begins-other 10 (get_or s (at + 1) 0) [] (drop (suc (suc at)) s) e
-        ∙ begins-same 41 (10 ∷ []) (get_or s (at + 1) 0 ∷ drop (suc (suc at)) s)))
+module _ (s : List ℕ) (at : ℕ) (r : Bool) (g : Stands s at 41 r) where
+  -- the bracket stands, and the line feed after it or not
+  pub ends-by-both : r ≡ true → (f : Bool) → Stands s (at + 1) 10 f → f ≡ begins line_ending (drop at s)
+  ends-by-both e f h =
+      h.same ∙ rw (← drop-drop 1 at s) (begun (drop at s) (sym e ∙ g.same))
 
-    -- another byte
-    pub ends_not : (get_or s at 0 ≡ 41 → ⊥) → false ≡ begins line_ending (drop at s)
-    ends_not b = rw two_bytes (begins-other 41 (get_or s at 0) (10 ∷ []) (get_or s (at + 1) 0 ∷ drop (suc (suc at)) s) b)
-
-  -- fewer than two bytes
-  pub ends-short : length s ≤ at + 1 → false ≡ begins line_ending (drop at s)
-  unfolding begins
-  ends-short h =
-      by-lt at (length s)
-      (λ l. rw (drop-cons s at 0 l, drop_of_length-le s {i = suc at} (omega arith)) (one (get_or s at 0)))
-      (λ l. rw (drop_of_length-le s {i = at} l))
-    where
-      one : (b : ℕ) → false ≡ begins line_ending (b ∷ [])
-      one b = by-eq b 41 (λ e. rw e) (begins-other 41 b (10 ∷ []) [])
+  -- the bracket does not stand
+  pub ends_not : r ≡ false → r ≡ begins line_ending (drop at s)
+  ends_not e = e ∙ not_begun (drop at s) (sym e ∙ g.same)

@@ -3,7 +3,7 @@
 use mathlib.Core.Path.{◌≡◌, refl, sym, ap, ◌∙◌}
 use mathlib.Core.Bool.{Bool, true, false}
 use mathlib.Core.List.{List, [], ◌∷◌}
-use mathlib.Core.Option.{Option, none, some}
+use Rattle.std.specs.Prelude.{Option, None, Some}
 use Prim.Native.Nat.{ℕ, ◌+◌, ◌-◌, ◌≤◌, ◌<◌}
 use native.Mathlib.Omega.{arith}
 use borrow.Author.Tests.{eq-eqb, ne_eqb}
@@ -14,16 +14,12 @@ use Rattle.text.specs.Bytes.{bytes}
 use Rattle.text.specs.Number.{digit_of, number, number_at}
 use Rattle.text.specs.Template.{capital, holes, matched}
 use Rattle.text.specs.Word.{BytesAt}
-use Rattle.text.specs.declared.number.Number.{Number}
-use Rattle.text.specs.declared.number.Number.TheVariants.{Value, Nothing}
 use Rattle.text.proofs.Ascii.{all-bytes}
 use Rattle.text.proofs.Begins.{bytes_begin, matched-short, matched-other-beginning, fixed_read, byte-read, byte-other}
 use Rattle.text.proofs.Begins.{word_of, number-read-on, number-within, number-none}
 use Rattle.text.proofs.Digits.{digit-below, found, number-digit, read-other}
+use Rattle.treaty.specs.declared.Loss.{Loss}
 use Rattle.treaty.specs.Treaty.{loss_of}
-use Rattle.events.specs.declared.form.Head.TheVariants.{Day, NoEvent}
-use Rattle.events.specs.declared.form.LossForm.{LossForm}
-use Rattle.events.specs.declared.form.LossForm.TheVariants as form
 use Rattle.events.specs.Event.{event_text, loss_text}
 use Rattle.events.specs.Form.{head_of, loss_at, loss_form_from, amounts_at}
 
@@ -48,42 +44,44 @@ loss-plain = refl
 
 -- the beginning of a line
 module _ (s : List ℕ) where
-  head_none : matched [] event_text s ≡ none → NoEvent ≡ head_of s
+  head_none : matched [] event_text s ≡ None → None ≡ head_of s
   unfolding head_of
   head_none e = rw e
 
-  pub head_short : length s < 8 → NoEvent ≡ head_of s
+  pub head_short : length s < 8 → None ≡ head_of s
   head_short l = head_none (matched-short event_bytes 68 [] [] s event-plain (omega arith))
 
   module _ (h : 8 ≤ length s) (w : ℕ) (b : BytesAt s 0 7 w) where
     head_begins : eqb w (word_of event_bytes) ≡ begins event_bytes s
     head_begins = bytes_begin event_bytes s 0 w (all-bytes event_bytes refl) (omega arith) b
 
-    pub head_other : (w ≡ word_of event_bytes → ⊥) → NoEvent ≡ head_of s
+    pub head_other : (w ≡ word_of event_bytes → ⊥) → None ≡ head_of s
     head_other n =
         head_none
         (matched-other-beginning event_bytes (68 ∷ []) [] s event-plain (sym head_begins ∙ ne_eqb _ _ n))
 
-    module _ (e : w ≡ word_of event_bytes) (r : Number) (q : r ≡ number_at s 7) where
+    module _ (e : w ≡ word_of event_bytes) (r : Option (ℕ × ℕ)) (q : r ≡ number_at s 7) where
       day-left : matched [] event_text s ≡ matched [] (68 ∷ []) (drop 7 s)
       day-left =
           fixed_read s 0 (matched [] event_text s) [] event_bytes (68 ∷ []) event-plain refl
           (sym head_begins ∙ eq-eqb _ _ e)
 
-      pub head_no_day : r ≡ Nothing → NoEvent ≡ head_of s
-      unfolding capital
-      head_no_day z = head_none (number-none s 7 _ [] 68 [] day-left refl r q z)
-
-      pub head_read : (v next : ℕ) → r ≡ Value v next → Day v next ≡ head_of s
+      pub head_read : r ≡ head_of s
       unfolding head_of capital matched
-      head_read v next z =
-          let read = number-read-on s 7 (matched [] event_text s) [] 68 [] day-left refl r q (omega arith) v next z in
-          let within = number-within s 7 (matched [] event_text s) [] 68 [] day-left refl r q (omega arith) v next z in
-          rw (read, place_of s next within)
+      head_read = by_day r refl
+        where
+          by_day : (x : Option (ℕ × ℕ)) → r ≡ x → r ≡ head_of s
+          by_day None z = z ∙ head_none (number-none s 7 _ [] 68 [] day-left refl r q z)
+          by_day (Some p) z =
+              let read =
+              number-read-on s 7 (matched [] event_text s) [] 68 [] day-left refl r q (omega arith) p.0 p.1 z in
+              let within =
+              number-within s 7 (matched [] event_text s) [] 68 [] day-left refl r q (omega arith) p.0 p.1 z in
+              z ∙ rw (read, place_of s p.1 within)
 
 -- a number of one digit, before a space
 pub treaty-one : (s : List ℕ) (at d : ℕ) → at + 1 < length s → d ≡ digit_of (get_or s at 0) → d < 10
-    → get_or s (at + 1) 0 ≡ 32 → Value d (at + 1) ≡ number_at s at
+    → get_or s (at + 1) 0 ≡ 32 → Some (d, at + 1) ≡ number_at s at
 treaty-one s at d h e l b =
     found s at d (at + 1) (omega arith)
     (read-other s (at + 1) d (number (drop at s)) (number-digit s at d (omega arith) e l) _ h refl other)
@@ -93,11 +91,11 @@ treaty-one s at d h e l b =
 
 -- what is read of a loss form in all, as the answer
 module _ (s : List ℕ) (o : Option (List ℕ × List ℕ)) where
-  form-none : o ≡ none → form.NoLoss ≡ loss_form_from (length s) o
+  form-none : o ≡ None → None ≡ loss_form_from (length s) o
   form-none e = rw e
 
-  form-done : (t m a next : ℕ) → next ≤ length s → o ≡ some (t ∷ m ∷ a ∷ [], drop next s)
-      → form.Loss (loss_of t m a) next ≡ loss_form_from (length s) o
+  form-done : (t m a next : ℕ) → next ≤ length s → o ≡ Some (t ∷ m ∷ a ∷ [], drop next s)
+      → Some (loss_of t m a, next) ≡ loss_form_from (length s) o
   form-done t m a next h e = rw (e, place_of s next h)
 
 -- A loss form from its second number on is read: o is what is read in all. The next number stands at `place`; it is
@@ -126,17 +124,17 @@ module _ (s : List ℕ) (t at : ℕ) where
     second = λ e. let z : ◌≡◌ {A = ℕ} 0 1 = cc in absurd (omega arith);
   }
 
-  module _ (m place : ℕ) (last : Bool) (g : Reading s amounts t m place last) (r : Number)
+  module _ (m place : ℕ) (last : Bool) (g : Reading s amounts t m place last) (r : Option (ℕ × ℕ))
       (q : r ≡ number_at s place) where
-    pub no-amount : r ≡ Nothing → form.NoLoss ≡ amounts_at s t at
+    pub no-amount : r ≡ None → None ≡ amounts_at s t at
     unfolding amounts_at capital
     no-amount z = form-none s amounts (by_last last refl)
       where
-        by_last : (l : Bool) → last ≡ l → amounts ≡ none
+        by_last : (l : Bool) → last ≡ l → amounts ≡ None
         by_last true e = number-none s place amounts (t ∷ m ∷ []) 71 (bytes ")") (g.second e) refl r q z
         by_last false e = number-none s place amounts (t ∷ []) 69 (bytes " G)") (g.first e) refl r q z
 
-    module _ (v next : ℕ) (z : r ≡ Value v next) (f : Bool) where
+    module _ (v next : ℕ) (z : r ≡ Some (v, next)) (f : Bool) where
       -- the maximum, with the space after it
       module _ (e : last ≡ false) (b : Stands s next 32 f) where
         maximum_left : amounts ≡ matched (t ∷ v ∷ []) (bytes " G)") (drop next s)
@@ -152,7 +150,7 @@ module _ (s : List ℕ) (t at : ℕ) where
           second = λ e. byte-read s next amounts (t ∷ v ∷ []) 32 (bytes "G)") maximum_left refl f b y;
         }
 
-        pub maximum_unended : f ≡ false → form.NoLoss ≡ amounts_at s t at
+        pub maximum_unended : f ≡ false → None ≡ amounts_at s t at
         unfolding amounts_at holes capital
         maximum_unended y =
             form-none s amounts (byte-other s next amounts (t ∷ v ∷ []) 32 (bytes "G)") maximum_left refl f b y)
@@ -164,24 +162,24 @@ module _ (s : List ℕ) (t at : ℕ) where
         amount-left =
             number-read-on s place amounts (t ∷ m ∷ []) 71 (bytes ")") (g.second e) refl r q g.within v next z
 
-        pub amount-read : f ≡ true → form.Loss (loss_of t m v) (next + 1) ≡ amounts_at s t at
+        pub amount-read : f ≡ true → Some (loss_of t m v, next + 1) ≡ amounts_at s t at
         unfolding amounts_at holes capital matched
         amount-read y =
             form-done s amounts t m v (next + 1) (omega (arith, b.within y))
             (byte-read s next amounts (t ∷ m ∷ v ∷ []) 41 [] amount-left refl f b y)
 
-        pub amount-unended : f ≡ false → form.NoLoss ≡ amounts_at s t at
+        pub amount-unended : f ≡ false → None ≡ amounts_at s t at
         unfolding amounts_at holes capital
         amount-unended y =
             form-none s amounts (byte-other s next amounts (t ∷ m ∷ v ∷ []) 41 [] amount-left refl f b y)
 
 -- a loss form
 module _ (s : List ℕ) (at : ℕ) where
-  loss-none : matched [] loss_text (drop at s) ≡ none → form.NoLoss ≡ loss_at s at
+  loss-none : matched [] loss_text (drop at s) ≡ None → None ≡ loss_at s at
   unfolding loss_at
   loss-none e = rw e
 
-  pub loss-short : length s - at < 8 → form.NoLoss ≡ loss_at s at
+  pub loss-short : length s - at < 8 → None ≡ loss_at s at
   loss-short l =
       let short : length (drop at s) ≤ 7 = omega (arith, length-drop at s) in
       loss-none (matched-short loss_bytes 84 (bytes " E G)") [] (drop at s) loss-plain short)
@@ -190,34 +188,34 @@ module _ (s : List ℕ) (at : ℕ) where
     loss-begins : eqb w (word_of loss_bytes) ≡ begins loss_bytes (drop at s)
     loss-begins = bytes_begin loss_bytes s at w (all-bytes loss_bytes refl) (omega arith) b
 
-    pub loss-other : (w ≡ word_of loss_bytes → ⊥) → form.NoLoss ≡ loss_at s at
+    pub loss-other : (w ≡ word_of loss_bytes → ⊥) → None ≡ loss_at s at
     loss-other n =
         loss-none
         (matched-other-beginning loss_bytes (bytes "T E G)") [] (drop at s) loss-plain (sym loss-begins ∙ ne_eqb _ _ n))
 
-    module _ (e : w ≡ word_of loss_bytes) (r : Number) (q : r ≡ number_at s (at + 7)) where
+    module _ (e : w ≡ word_of loss_bytes) (r : Option (ℕ × ℕ)) (q : r ≡ number_at s (at + 7)) where
       treaty-left : matched [] loss_text (drop at s) ≡ matched [] (bytes "T E G)") (drop (at + 7) s)
       treaty-left =
           fixed_read s at (matched [] loss_text (drop at s)) [] loss_bytes (bytes "T E G)") loss-plain refl
           (sym loss-begins ∙ eq-eqb _ _ e)
 
-      pub no-treaty : r ≡ Nothing → form.NoLoss ≡ loss_at s at
+      pub no-treaty : r ≡ None → None ≡ loss_at s at
       unfolding capital
       no-treaty z = loss-none (number-none s (at + 7) _ [] 84 (bytes " E G)") treaty-left refl r q z)
 
-      module _ (t next : ℕ) (z : r ≡ Value t next) (f : Bool) (g : Stands s next 32 f) where
+      module _ (t next : ℕ) (z : r ≡ Some (t, next)) (f : Bool) (g : Stands s next 32 f) where
         amounts-left : matched [] loss_text (drop at s) ≡ matched (t ∷ []) (bytes " E G)") (drop next s)
         unfolding capital
         amounts-left =
             number-read-on s (at + 7) (matched [] loss_text (drop at s)) [] 84 (bytes " E G)") treaty-left refl r q
             (omega arith) t next z
 
-        pub treaty-unended : f ≡ false → form.NoLoss ≡ loss_at s at
+        pub treaty-unended : f ≡ false → None ≡ loss_at s at
         unfolding holes capital
         treaty-unended y =
             loss-none (byte-other s next _ (t ∷ []) 32 (bytes "E G)") amounts-left refl f g y)
 
-        pub treaty-read : f ≡ true → (a : LossForm) → a ≡ amounts_at s t (next + 1) → a ≡ loss_at s at
+        pub treaty-read : f ≡ true → (a : Option (Loss × ℕ)) → a ≡ amounts_at s t (next + 1) → a ≡ loss_at s at
         unfolding amounts_at loss_at holes capital
         treaty-read y a i =
             let left = byte-read s next _ (t ∷ []) 32 (bytes "E G)") amounts-left refl f g y in

@@ -4,7 +4,7 @@ use Prim.{Unit}
 use mathlib.Core.Path.{◌≡◌, refl, sym, ◌∙◌}
 use mathlib.Core.Bool.{cond}
 use mathlib.Core.List.{List, [], ◌∷◌, ◌++◌, map, map-append}
-use mathlib.Core.Option.{Option, none, some}
+use Rattle.std.specs.Prelude.{Option, None, Some}
 use Prim.Native.Nat.{ℕ, zero, suc, ◌+◌, ◌^◌, ◌≤◌}
 use native.Mathlib.Omega.{arith}
 use borrow.Author.Tests.{lt-ltb, le-ltb}
@@ -30,7 +30,7 @@ Faultless ts d (e ∷ es) = (event_fault ts d e ≡ 0) × Faultless ts e.day es
 
 -- lines that are read as the events es after the day d: each is an event form, and none has a fault
 record LinesRead (ts : List Treaty) (d : ℕ) (fs : List (Option Event)) (es : List Event) : Type 0 where
-  forms : fs ≡ map some es
+  forms : fs ≡ map Some es
   faultless : Faultless ts d es
 
 turned_down : {C : Type 0} (n w : ℕ) (es : List Event) → turned_down_at n w ≡ events es → C
@@ -41,13 +41,13 @@ lines-read : (ts : List Treaty) (w d : ℕ) (fs : List (Option Event)) (es : Lis
     → read_from ts w d fs ≡ events es → LinesRead ts d fs es
 unfolding read_from
 lines-read ts w d [] es q = let k : [] ≡ es = cc in rw (← k) (record { forms = refl; faultless = tt })
-lines-read ts w d (none ∷ fs) es q = turned_down 10 w es q
-lines-read ts w d (some e ∷ fs) es q =
+lines-read ts w d (None ∷ fs) es q = turned_down 10 w es q
+lines-read ts w d (Some e ∷ fs) es q =
     go (event_fault ts d e) refl (read_from ts (w + 1) e.day fs) (lines-read ts (w + 1) e.day fs) q
   where
     go : (n : ℕ) → event_fault ts d e ≡ n → (r : EventsRead)
         → ((xs : List Event) → r ≡ events xs → LinesRead ts e.day fs xs)
-        → unless_fault n w e r ≡ events es → LinesRead ts d (some e ∷ fs) es
+        → unless_fault n w e r ≡ events es → LinesRead ts d (Some e ∷ fs) es
     go zero f (turned_down_at m v) again q = turned_down m v es q
     go zero f (events xs) again q =
         let k : e ∷ xs ≡ es = cc in
@@ -57,7 +57,7 @@ lines-read ts w d (some e ∷ fs) es q =
 
 -- forms without a fault are read
 forms-read : (ts : List Treaty) (w d : ℕ) (es : List Event) → Faultless ts d es
-    → read_from ts w d (map some es) ≡ events es
+    → read_from ts w d (map Some es) ≡ events es
 unfolding read_from
 forms-read ts w d [] z = refl
 forms-read ts w d (e ∷ es) z = simp (read_from, z.0, forms-read ts (w + 1) e.day es z.1)
@@ -83,7 +83,7 @@ module _ (ts : List Treaty) (d : ℕ) (s : List ℕ) (es : List Event) where
   text-reads r =
       simp (events_of, le-ltb 65536 (length s) r.short, r.lines.forms) (forms-read ts _ d es r.lines.faultless)
 
-stated_some : (es : List Event) → stated (map some es) ≡ es
+stated_some : (es : List Event) → stated (map Some es) ≡ es
 stated_some [] = refl
 stated_some (e ∷ es) = cc (stated_some es)
 
@@ -177,7 +177,7 @@ record LinesCut (ts : List Treaty) (d : ℕ) (fs gs : List (Option Event)) (es :
   reads_second : LinesRead ts (last_day d first) gs second
 
 lines_cut : (ts : List Treaty) (d : ℕ) (fs gs : List (Option Event)) (es : List Event)
-    → fs ++ gs ≡ map some es → Faultless ts d es → LinesCut ts d fs gs es
+    → fs ++ gs ≡ map Some es → Faultless ts d es → LinesCut ts d fs gs es
 lines_cut ts d [] gs es q z = record {
   first = [];
   second = es;
@@ -187,8 +187,8 @@ lines_cut ts d [] gs es q z = record {
 }
 lines_cut ts d (f ∷ fs) gs [] q z = let n : ◌≡◌ {A = ℕ} 0 1 = cc in absurd (omega arith)
 lines_cut ts d (f ∷ fs) gs (e ∷ es) q z =
-    let k : f ≡ some e = cc in
-    let l : fs ++ gs ≡ map some es = cc in
+    let k : f ≡ Some e = cc in
+    let l : fs ++ gs ≡ map Some es = cc in
     let c = lines_cut ts e.day fs gs es l z.1 in
     record {
       first = e ∷ c.first;

@@ -2,7 +2,7 @@
 -- none".
 -- Assumes nothing.
 use Rattle.std.specs.Prelude.{Bool, true, false, List, [], ◌∷◌, ◌++◌, map, ℕ, zero, suc, eqb, length, get_or}
-use Rattle.std.proofs.Math.Option.{Option, none, some}
+use Rattle.std.specs.Prelude.{Option, None, Some}
 use Rattle.lists.specs.Chains.{last_by}
 use Rattle.text.specs.Bytes.{bytes}
 use Rattle.text.specs.Template.{matched}
@@ -35,13 +35,13 @@ loss_from v = loss_of (get_or v 0 0) (get_or v 1 0) (get_or v 2 0)
 
 -- the losses xs, and after them those of fewer than k loss forms up to the bracket that ends the line
 unfoldable pub losses_up_to : ℕ → List Loss → List ℕ → Option (List Loss)
-losses_up_to zero xs s = none
+losses_up_to zero xs s = None
 losses_up_to (suc k) xs s =
     elim (closes s) [
-      | true ↦ some xs
+      | true ↦ Some xs
       | false ↦
           elim (matched [] loss_text s)
-          [ none ↦ none | some p ↦ losses_up_to k (xs ++ (loss_from p.0 ∷ [])) p.1 ]
+          [ None ↦ None | Some p ↦ losses_up_to k (xs ++ (loss_from p.0 ∷ [])) p.1 ]
     ]
 
 -- the losses of a line from the end of its day on: it has no more loss forms than bytes
@@ -50,17 +50,17 @@ losses_of s = losses_up_to (suc (length s)) [] s
 
 -- an event of a day and losses, where the losses have their form
 abbrev pub dated_on : ℕ → Option (List Loss) → Option Event
-dated_on d none = none
-dated_on d (some xs) = some (record { day = d; losses = xs })
+dated_on d None = None
+dated_on d (Some xs) = Some (record { day = d; losses = xs })
 
 -- what a line is: an event, with any numbers, or `none` where it is no event form
 unfoldable pub event_of : List ℕ → Option Event
-event_of s = elim (matched [] event_text s) [ none ↦ none | some p ↦ dated_on (get_or p.0 0 0) (losses_of p.1) ]
+event_of s = elim (matched [] event_text s) [ None ↦ None | Some p ↦ dated_on (get_or p.0 0 0) (losses_of p.1) ]
 
 -- what the lines of a text are; bytes after the last line feed are no form
 abbrev pub line_event : Option (List ℕ) → Option Event
-line_event none = none
-line_event (some l) = event_of l
+line_event None = None
+line_event (Some l) = event_of l
 
 -- all of them
 abbrev pub forms_of : List ℕ → List (Option Event)
@@ -69,8 +69,8 @@ forms_of s = map line_event (lines_of s)
 -- the events that they state, in order; a line that gives no form ends the reading
 abbrev pub stated : List (Option Event) → List Event
 stated [] = []
-stated (none ∷ fs) = []
-stated (some e ∷ fs) = e ∷ stated fs
+stated (None ∷ fs) = []
+stated (Some e ∷ fs) = e ∷ stated fs
 
 -- the events that a text states
 unfoldable pub stated_in : List ℕ → List Event

@@ -3,7 +3,7 @@
 -- reading."
 -- Assumes nothing.
 use Rattle.std.specs.Prelude.{true, false, List, [], ◌∷◌, ℕ, zero, suc, ◌+◌, ltb, length}
-use Rattle.std.proofs.Math.Option.{Option, none, some}
+use Rattle.std.specs.Prelude.{Option, None, Some}
 use Rattle.treaty.specs.declared.Treaty.{Treaty}
 use Rattle.events.specs.Event.{Event, forms_of}
 use Rattle.events.specs.Rules.{event_fault}
@@ -27,8 +27,8 @@ unless_fault (suc n) w e r = turned_down_at (suc n) w
 -- form is fault 10.
 unfoldable pub read_from : List Treaty → (w d : ℕ) → List (Option Event) → EventsRead
 read_from ts w d [] = events []
-read_from ts w d (none ∷ fs) = turned_down_at 10 w
-read_from ts w d (some e ∷ fs) = unless_fault (event_fault ts d e) w e (read_from ts (w + 1) e.day fs)
+read_from ts w d (None ∷ fs) = turned_down_at 10 w
+read_from ts w d (Some e ∷ fs) = unless_fault (event_fault ts d e) w e (read_from ts (w + 1) e.day fs)
 
 -- reading a text after the day d, under the table's treaties: 9, over 65,536 bytes; then line by line
 unfoldable pub events_of : List Treaty → (d : ℕ) → List ℕ → EventsRead

@@ -5,7 +5,6 @@ ghost use Rattle.text.specs.Bytes.{bytes};
 ghost use Rattle.text.specs.Number.{number_at};
 ghost use Rattle.events.specs.Form.{head_of, loss_at, amounts_at};
 
-use text::number::Number;
 use text::{line, number, word};
 use treaty::Loss;
 
@@ -14,38 +13,22 @@ const EVENT: u64 = 0x20746e65766528;
 
 const LOSS: u64 = 0x2073736f6c2820;
 
-// How a line begins: with an event's day, and the place after it, or not as an event form does.
-#[derive(Clone, Copy)]
-pub enum Head {
-    Day(u64, usize),
-    NoEvent,
-}
-
-// What stands at a place of a line: a loss, and the place after its form, or no loss form.
-#[derive(Clone, Copy)]
-pub enum LossForm {
-    Loss(Loss, usize),
-    NoLoss,
-}
-
-// Reads the beginning of a line: seven bytes at once, and the day.
-pub fn read_head(line: &[u8]) -> Head
+// Reads the beginning of a line, seven bytes at once, and the day: the day and the place after it, if the line begins
+// as an event form does.
+pub fn read_head(line: &[u8]) -> Option<(u64, usize)>
     ensures { result ≡ head_of line.now }
 {
     if line.len() < 8 {
-        return Head::NoEvent;
+        return None;
     }
     if word::seven(line, 0) != EVENT {
-        return Head::NoEvent;
+        return None;
     }
-    let Number::Value(day, next) = number::read_short(line, 7) else {
-        return Head::NoEvent;
-    };
-    Head::Day(day, next)
+    number::read_short(line, 7)
 }
 
 // Reads the number of a treaty: mostly one digit, before a space.
-fn read_treaty(line: &[u8], at: usize) -> Number
+fn read_treaty(line: &[u8], at: usize) -> Option<(u64, usize)>
     requires { at ≤ length line.now }
     ensures { result ≡ number_at line.now at }
 {
@@ -54,7 +37,7 @@ fn read_treaty(line: &[u8], at: usize) -> Number
         let after = line[at + 1];
         if treaty < 10 {
             if after == b' ' {
-                return Number::Value(treaty, at + 1);
+                return Some((treaty, at + 1));
             }
         }
     }
@@ -63,7 +46,7 @@ fn read_treaty(line: &[u8], at: usize) -> Number
 
 // Reads a loss form from its second number on: the maximum and a space, then the amount and the bracket. One call, in
 // a loop of two turns, reads both numbers: a function that is called at one place only is compiled into it.
-fn read_amounts(line: &[u8], treaty: u64, at: usize) -> LossForm
+fn read_amounts(line: &[u8], treaty: u64, at: usize) -> Option<(Loss, usize)>
     requires { at ≤ length line.now }
     ensures { result ≡ amounts_at line.now treaty at }
 {
@@ -71,9 +54,7 @@ fn read_amounts(line: &[u8], treaty: u64, at: usize) -> LossForm
     let mut place = at;
     let mut last = false;
     loop {
-        let Number::Value(value, next) = number::read(line, place) else {
-            return LossForm::NoLoss;
-        };
+        let (value, next) = number::read(line, place)?;
         if last {
             if line::stands(line, next, b')') {
                 let loss = Loss {
@@ -81,38 +62,37 @@ fn read_amounts(line: &[u8], treaty: u64, at: usize) -> LossForm
                     maximum,
                     amount: value,
                 };
-                return LossForm::Loss(loss, next + 1);
+                return Some((loss, next + 1));
             }
-            return LossForm::NoLoss;
+            return None;
         }
         if line::stands(line, next, b' ') {
             maximum = value;
             place = next + 1;
             last = true;
         } else {
-            return LossForm::NoLoss;
+            return None;
         }
     }
 }
 
-// Reads a loss form: seven bytes at once, and its three numbers.
-pub fn read_loss(line: &[u8], at: usize) -> LossForm
+// Reads a loss form, seven bytes at once, and its three numbers: the loss and the place after its form, if one stands
+// there.
+pub fn read_loss(line: &[u8], at: usize) -> Option<(Loss, usize)>
     requires { at ≤ length line.now }
     ensures { result ≡ loss_at line.now at }
 {
     if line.len() - at < 8 {
-        return LossForm::NoLoss;
+        return None;
     }
     if word::seven(line, at) != LOSS {
-        return LossForm::NoLoss;
+        return None;
     }
-    let Number::Value(treaty, end) = read_treaty(line, at + 7) else {
-        return LossForm::NoLoss;
-    };
+    let (treaty, end) = read_treaty(line, at + 7)?;
     if line::stands(line, end, b' ') {
         return read_amounts(line, treaty, end + 1);
     }
-    LossForm::NoLoss
+    None
 }
 
 // How many bytes end a line: the bracket and the line feed.
@@ -123,16 +103,5 @@ pub fn closes(text: &[u8], at: usize) -> bool
     requires { at ≤ length text.now }
     ensures { result ≡ begins (bytes ")\n") (drop at text.now) }
 {
-    if at + 1 < text.len() {
-        let byte = text[at];
-        match byte {
-            b')' => {
-                return text[at + 1] == b'\n';
-            }
-            _ => {
-                return false;
-            }
-        }
-    }
-    false
+    line::stands(text, at, b')') && line::stands(text, at + 1, b'\n')
 }

@@ -1,30 +1,15 @@
 // The rules of an event form's numbers.
 ghost use Rattle.std.specs.Prelude.{cond, ◌≡◌, ◌≤◌};
 ghost use Rattle.programme.specs.Ranges.{outside};
+ghost use Rattle.refusal.specs.Refusal.{refusal_number};
 ghost use Rattle.events.specs.Rules.{loss_outside, lowest_fault};
 
 use programme::range;
+use refusal::Refusal;
 use treaty::Loss;
 
-// The longest events text that is examined, in bytes, and the refusal of one over it.
+// The longest events text that is examined, in bytes.
 pub const EVENTS_BYTES: usize = 65536;
-
-pub const EVENTS_TOO_LONG: u64 = 9;
-
-// A line that is not an event form, or has no line feed.
-pub const NOT_AN_EVENT_FORM: u64 = 10;
-
-// A number outside its range.
-const EVENT_NUMBER_OUT_OF_RANGE: u64 = 11;
-
-// Over 64 losses.
-const TOO_MANY_LOSSES: u64 = 12;
-
-// A day below the line before.
-const DAY_GOES_BACK: u64 = 13;
-
-// A treaty other than 0 that the table lacks.
-const NO_SUCH_TREATY: u64 = 14;
 
 // The last day of a year.
 pub const LAST_DAY: u64 = 366;
@@ -48,33 +33,40 @@ pub fn loss_outside(loss: Loss) -> u64
         + range::outside(0, range::AMOUNT, loss.amount)
 }
 
-// The lowest fault of an event form, or 0.
-fn event_fault(out: u64, count: usize, day: u64, before: u64, lacks: u64) -> u64
-    ensures { result ≡ lowest_fault out count day before lacks }
+// The lowest fault of an event form, if it has one.
+fn event_fault(out: u64, count: usize, day: u64, before: u64, lacks: u64) -> Result<(), Refusal>
+    ensures { refusal_number result ≡ lowest_fault out count day before lacks }
 {
     if 0 < out {
-        return EVENT_NUMBER_OUT_OF_RANGE;
+        return Err(Refusal::EventNumberOutOfRange);
     }
     if LOSSES < count {
-        return TOO_MANY_LOSSES;
+        return Err(Refusal::TooManyLosses);
     }
     if day < before {
-        return DAY_GOES_BACK;
+        return Err(Refusal::DayGoesBack);
     }
     if 0 < lacks {
-        return NO_SUCH_TREATY;
+        return Err(Refusal::NoSuchTreaty);
     }
-    0
+    Ok(())
 }
 
-// The lowest fault of a line that begins as an event form, or 0: 10 where its loss forms are not closed; then by how
-// many of its numbers are outside their range, how many losses it has, its day and the day before it, and how many of
-// its losses name a treaty that the table lacks.
-pub fn fault(closed: bool, out: u64, count: usize, day: u64, before: u64, lacks: u64) -> u64
-    ensures { result ≡ cond closed (lowest_fault out count day before lacks) 10 }
+// The lowest fault of a line that begins as an event form, if it has one: 10 where its loss forms are not closed; then
+// by how many of its numbers are outside their range, how many losses it has, its day and the day before it, and how
+// many of its losses name a treaty that the table lacks.
+pub fn fault(
+    closed: bool,
+    out: u64,
+    count: usize,
+    day: u64,
+    before: u64,
+    lacks: u64,
+) -> Result<(), Refusal>
+    ensures { refusal_number result ≡ cond closed (lowest_fault out count day before lacks) 10 }
 {
     if closed {
         return event_fault(out, count, day, before, lacks);
     }
-    NOT_AN_EVENT_FORM
+    Err(Refusal::NotAnEventForm)
 }

@@ -16,7 +16,7 @@ use Rattle.layer.specs.declared.amount.Whole.{Whole}
 use Rattle.layer.specs.declared.terms.Terms.{Terms}
 use Rattle.layer.specs.declared.record.Layer.{Layer}
 use Rattle.layer.specs.declared.record.Sums.{Sums}
-use Rattle.layer.specs.Layer.{brought_by, cap_of, cut_at_cap, premium_of, is_timed, due_for, due_of, layer_of}
+use Rattle.layer.specs.Layer.{brought_by, cut_at_cap, premium_of, is_timed, due_for, due_of, layer_of}
 use Rattle.layer.specs.Layer.{recovered_since, charged_since, after_subject, due_by, with_due, sums_of}
 use Rattle.layer.specs.Layer.{borne_with, borne_through}
 use Rattle.layer.specs.Ranges.{Sound, Ample}
@@ -46,24 +46,7 @@ module _ (xs : List ℕ) (y₀ : Layer) (share : ℕ) where
     pub rest : after_each (drop i xs) (spends spent.0) ≡ after_each xs y₀
     pub dues : due.0 + due_each share (drop i xs) (spends spent.0) ≡ due_each share xs y₀
 
-  -- before the first amount
-  pub none-charged : Sound y₀ → share ≤ 10000 → is_timed t ≡ true → (premium due : Placed)
-      → premium.0 ≡ premium_of t y₀.spent.0 → due.0 ≡ 0 → Charging 0 y₀.spent premium due
-  none-charged s f h premium due e z = record {
-    within = omega arith;
-    fair = f;
-    timed = h;
-    first = s;
-    sound = s;
-    premium-is = e;
-    rest = refl;
-    dues = omega (arith, z);
-  }
-
   module _ {i : ℕ} {spent : Whole} {premium due : Placed} (g : Charging i spent premium due) where
-    pub spends-within : spent.0 ≤ cap_of t
-    spends-within = g.sound.spent
-
     -- the next amount leaves it so much spent
     module _ (d : ℕ) (more : i < length xs) (after : Whole)
         (is : after.0 ≡ cut_at_cap t (spent.0 + brought_by t (get_or xs i d))) where
@@ -72,9 +55,6 @@ module _ (xs : List ℕ) (y₀ : Layer) (share : ℕ) where
 
       abbrev y : Layer
       y = spends spent.0
-
-      pub after-within : after.0 ≤ cap_of t
-      after-within = omega (arith, is)
 
       ahead : drop i xs ≡ x ∷ drop (i + 1) xs
       ahead = rw (add-one i) (drop-cons xs i d more)

@@ -6,8 +6,8 @@ use Prim.Native.Nat.{ℕ, ◌+◌, ◌-◌, ◌*◌, ◌^◌, ◌≤◌, ◌<◌
 use native.Mathlib.Nat.{add-mul}
 use native.Mathlib.Numerals.{add-one}
 use native.Mathlib.Omega.{arith}
-use lib.ListN.{length, drop, get_or, drop_of_length-le}
-use lib.Seq.{drop-cons, get_or-take}
+use lib.ListN.{length, drop, get_or}
+use lib.Seq.{drop-cons}
 use Rattle.layer.specs.declared.terms.Terms.{Terms}
 use Rattle.layer.specs.Layer.{placed_of, recovered_to, slice_after, rated_from, rated_of}
 use Rattle.layer.specs.Ranges.{InRange}
@@ -34,12 +34,6 @@ none-added t u sum below end r s b e = record {
 }
 
 module _ (t : Terms) (u sum below end i : ℕ) (h : Added t u sum below end i) where
-  -- after the last slice
-  pub all-added : t.reinstatements ≤ i → sum ≡ rated_of t u
-  all-added last =
-      let none = ap (rated_from t u i) (drop_of_length-le (rates_of t) {i = i} (omega (arith, as_many t h.range))) in
-      omega (arith, none, h.rest)
-
   -- above the used amount there are no more
   pub none_above : u ≤ end → sum ≡ rated_of t u
   none_above above =
@@ -54,19 +48,16 @@ module _ (t : Terms) (u sum below end i : ℕ) (h : Added t u sum below end i) w
   pub next-slice : (above : ℕ) → above ≡ recovered_to t u (i + 1) → above - below ≡ slice_after t u i
   next-slice above is = omega (arith, is, h.recovered)
 
-  module _ (more : i < t.reinstatements) (d : ℕ) where
+  module _ (more : i < length (rates_of t)) (d : ℕ) where
     abbrev with_next : ℕ
-    with_next = sum + slice_after t u i * get_or t.rates i d
+    with_next = sum + slice_after t u i * get_or (rates_of t) i d
 
     still-ahead : with_next + rated_from t u (i + 1) (drop (i + 1) (rates_of t)) ≡ rated_of t u
     still-ahead = omega (arith, next, h.rest)
       where
-        inside : i < length (rates_of t)
-        inside = omega (arith, as_many t h.range)
-
         next : rated_from t u i (drop i (rates_of t))
-            ≡ slice_after t u i * get_or t.rates i d + rated_from t u (i + 1) (drop (i + 1) (rates_of t))
-        next = rw (drop-cons (rates_of t) i d inside, get_or-take t.reinstatements t.rates i d more, add-one i)
+            ≡ slice_after t u i * get_or (rates_of t) i d + rated_from t u (i + 1) (drop (i + 1) (rates_of t))
+        next = rw (drop-cons (rates_of t) i d more, add-one i)
 
     pub with_next_fits : with_next < 2 ^ 64
     with_next_fits = omega (arith, still-ahead, base_le t h.range u, h.range.limit-high)
@@ -75,7 +66,7 @@ module _ (t : Terms) (u sum below end i : ℕ) (h : Added t u sum below end i) w
         → Added t u sum' above end' (i + 1)
     one-added sum' above end' s a e = record {
       range = h.range;
-      within = omega arith;
+      within = omega (arith, as_many t h.range);
       ends = omega (arith, h.ends, add-mul i 1 t.limit);
       recovered = a;
       rest = omega (arith, still-ahead);

@@ -8,12 +8,12 @@ use lib.ListN.{length, take, drop, get_or, set, length-set}
 use lib.Seq.{slice, take-length, drop-length}
 use Rattle.lists.specs.Sums.{sum_of}
 use Rattle.lists.specs.Each.{Each}
-use Rattle.lists.proofs.Passes.{each_next, each_step, map-step, sum_step, map-end, sum-end}
+use Rattle.lists.proofs.Passes.{each_next, each_step, map-step, sum_step}
 use Rattle.layer.specs.declared.record.Layer.{Layer}
 use Rattle.layer.specs.declared.record.Sums.{Sums}
 use Rattle.layer.specs.declared.record.Borne.{Borne}
 use Rattle.layer.specs.Layer.{sums_of, borne_through}
-use Rattle.layer.specs.Tier.{layers_through, recoveries_through, dues_through, sums_through}
+use Rattle.layer.specs.Tier.{layers_through, recoveries_through, dues_through}
 use Rattle.layer.specs.Ranges.{Sound, Ample, AmpleForTier, SoundLayers}
 use Rattle.layer.proofs.Through.{on_each, recovered_each, due_each, borne-columns}
 use Rattle.layer.proofs.Through.{layers-each, recoveries-each, dues-each}
@@ -94,15 +94,6 @@ module _ (xs : List ℕ) (ls₀ : List Layer) (s₀ : Sums) where
       last : i ≡ length ls₀
       last = omega (arith, h.within)
 
-      pub layers-passed : ls ≡ layers_through share xs ls₀
-      layers-passed = map-end i (length ls₀) ls last (on_each share xs) h.layers
-
-      pub sums-passed : s ≡ sums_through xs s₀ ls₀
-      sums-passed =
-          let r = sum-end i (length ls₀) ls last (recovered_each xs) _ h.recovered in
-          let p = sum-end i (length ls₀) ls last (due_each share xs) _ h.premium in
-          λ j. sums_of (h.share-same j) (r j) (p j)
-
 -- sums of nothing have room for a tier's
-pub none_ample : (s : Sums) → s.share ≤ 10000 → s.recovered.0 ≡ 0 → s.premium.0 ≡ 0 → AmpleForTier s
-none_ample s h r p = record { share = h; recovered = omega arith; premium = omega arith }
+pub none_ample : (share : ℕ) (s : Sums) → share ≤ 10000 → s ≡ sums_of share 0 0 → AmpleForTier s
+none_ample share s h e = rw e record { share = h; recovered = omega arith; premium = omega arith }

@@ -2,7 +2,7 @@
 ghost use Rattle.std.specs.Prelude.{◌≡◌, true, false, ◌≤◌};
 ghost use Rattle.layer.specs.Layer.{deductible_left_of, cover_left_of, used_of, recovered_of, year_premium};
 ghost use Rattle.lists.specs.Sums.{sum_of};
-ghost use Rattle.layer.specs.Layer.{brought_by, layer_after, recovered_since, charged_since};
+ghost use Rattle.layer.specs.Layer.{layer_of, sums_of, brought_by, layer_after, recovered_since, charged_since};
 ghost use Rattle.layer.specs.Layer.{is_timed, borne_since, borne_by, borne_through};
 ghost use Rattle.layer.specs.Ranges.{Sound, Room, Ample};
 
@@ -10,7 +10,7 @@ use crate::amount::{Placed, Whole};
 use crate::terms::Terms;
 
 // Terms with the spent amount, the year's losses, cut off at the cap, and with the year's timed premium, which is 0
-// where premium is not by time.
+// where premium is not by time. That a record is sound stands in contracts, since `layer_of` makes one of any terms.
 #[derive(Clone, Copy)]
 pub struct Layer {
     pub terms: Terms,
@@ -33,31 +33,51 @@ pub struct Borne {
     pub sums: Sums,
 }
 
+impl Sums {
+    // The sums of a day before any layer's.
+    pub fn none(share: u64) -> Sums
+        ensures { result ≡ sums_of share 0 0 }
+    {
+        Sums {
+            share,
+            recovered: Placed::none(),
+            premium: Placed::none(),
+        }
+    }
+}
+
 impl Layer {
+    // The record of a layer's terms with what a standing holds of it.
+    pub fn of_standing(terms: Terms, spent: u64, timed: u64) -> Layer
+        ensures { result ≡ layer_of terms spent timed }
+    {
+        Layer {
+            terms,
+            spent: Whole::new(spent),
+            timed: Placed::of_standing(timed),
+        }
+    }
+
     // The record after a loss; what passes the cap is cut off. The premium due for the loss is not in it yet.
     pub fn take(self, loss: Whole) -> Layer
         requires { Sound self × (loss.0 ≤ self.terms.limit) }
         ensures { result ≡ layer_after loss.0 self }
     {
-        let terms = self.terms;
-        let spent = self.spent.plus(loss).at_most(terms.cap());
-        let timed = self.timed;
         Layer {
-            terms,
-            spent,
-            timed,
+            spent: self.spent.plus(loss).at_most(self.terms.cap()),
+            ..self
         }
     }
 
-    pub fn deductible_left(self) -> Whole
-        ensures { result.0 ≡ deductible_left_of self.terms self.spent.0 }
+    pub fn deductible_left(&self) -> Whole
+        ensures { result.0 ≡ deductible_left_of self.now.terms self.now.spent.0 }
     {
         Whole::new(self.terms.deductible).less(self.spent)
     }
 
-    pub fn cover_left(self) -> Whole
-        requires { Sound self }
-        ensures { result.0 ≡ cover_left_of self.terms self.spent.0 }
+    pub fn cover_left(&self) -> Whole
+        requires { Sound self.now }
+        ensures { result.0 ≡ cover_left_of self.now.terms self.now.spent.0 }
     {
         self.terms
             .cap()
@@ -65,23 +85,23 @@ impl Layer {
     }
 
     // What the losses took of the cover, above the deductible.
-    pub fn used(self) -> Whole
-        ensures { result.0 ≡ used_of self.terms self.spent.0 }
+    pub fn used(&self) -> Whole
+        ensures { result.0 ≡ used_of self.now.terms self.now.spent.0 }
     {
         self.spent.less(Whole::new(self.terms.deductible))
     }
 
-    pub fn recovered(self) -> Placed
-        requires { Sound self }
-        ensures { result.0 ≡ recovered_of self.terms self.spent.0 }
+    pub fn recovered(&self) -> Placed
+        requires { Sound self.now }
+        ensures { result.0 ≡ recovered_of self.now.terms self.now.spent.0 }
     {
         self.terms.placed_share(self.used())
     }
 
     // The reinstatement premium of the year: by time the timed premium, else by amount.
-    pub fn premium(self) -> Placed
-        requires { Sound self }
-        ensures { result.0 ≡ year_premium self }
+    pub fn premium(&self) -> Placed
+        requires { Sound self.now }
+        ensures { result.0 ≡ year_premium self.now }
     {
         if self.terms.is_timed() {
             return self.timed;
@@ -90,30 +110,30 @@ impl Layer {
     }
 
     // What has been recovered since an earlier record of the year: one loss's recovery, from the record before it.
-    pub fn recovery_since(self, before: Layer) -> Placed
-        requires { Sound self × Sound before }
-        ensures { result.0 ≡ recovered_since before self }
+    pub fn recovery_since(&self, before: &Layer) -> Placed
+        requires { Sound self.now × Sound before.now }
+        ensures { result.0 ≡ recovered_since before.now self.now }
     {
         self.recovered().less(before.recovered())
     }
 
     // The amount premium since an earlier record of the year.
-    pub fn premium_since(self, before: Layer) -> Placed
-        requires { Sound self × Sound before × (self.terms ≡ before.terms) }
-        ensures { result.0 ≡ charged_since before self }
+    pub fn premium_since(&self, before: &Layer) -> Placed
+        requires { Sound self.now × Sound before.now × (self.now.terms ≡ before.now.terms) }
+        ensures { result.0 ≡ charged_since before.now self.now }
     {
         self.terms.premium_between(before.used(), self.used())
     }
 
     // The record after the losses that amounts bring, each in turn. At the cap it stays.
-    fn take_each(self, subjects: &[u64]) -> Layer
-        requires { Sound self }
-        ensures { result ≡ layer_after (sum_of (brought_by self.terms) subjects.now) self }
+    fn take_each(&self, subjects: &[u64]) -> Layer
+        requires { Sound self.now }
+        ensures { result ≡ layer_after (sum_of (brought_by self.now.terms) subjects.now) self.now }
     {
         let cap = self.terms.cap();
-        let mut layer = self;
-        for i in 0..subjects.len() {
-            layer = layer.take(layer.terms.brings(subjects[i]));
+        let mut layer = *self;
+        for subject in subjects {
+            layer = layer.take(layer.terms.brings(*subject));
             if cap.cents() <= layer.spent.cents() {
                 return layer;
             }
@@ -123,68 +143,66 @@ impl Layer {
 
     // The record, and the sums with what it has come to recover and to charge since an earlier record of the year, for
     // a premium that is not by time. Where nothing more is spent, the sums stay as they were.
-    fn borne_since(self, before: Layer, sums: Sums) -> Borne
-        requires { Sound self × Sound before × Room sums × (self.terms ≡ before.terms)
-            × (is_timed self.terms ≡ false) }
-        ensures { result ≡ borne_since before sums self }
+    fn borne_since(&self, before: &Layer, sums: Sums) -> Borne
+        requires { Sound self.now × Sound before.now × Room sums × (self.now.terms ≡ before.now.terms)
+            × (is_timed self.now.terms ≡ false) }
+        ensures { result ≡ borne_since before.now sums self.now }
     {
         if self.spent.cents() == before.spent.cents() {
-            return Borne { layer: self, sums };
+            return Borne { layer: *self, sums };
         }
         let recovery = self.recovery_since(before);
         let premium = self.premium_since(before);
         Borne {
-            layer: self,
+            layer: *self,
             sums: Sums {
-                share: sums.share,
                 recovered: sums.recovered.plus(recovery),
                 premium: sums.premium.plus(premium),
+                ..sums
             },
         }
     }
 
     // The record and the sums after the losses that amounts bring, each amount in turn the subject, for a premium by
     // time: each loss's is settled by itself. Most losses of a full year bring a layer nothing.
-    fn bear_timed(self, subjects: &[u64], sums: Sums) -> Borne
-        requires { Sound self × Ample sums × (is_timed self.terms ≡ true) }
-        ensures { result ≡ borne_through subjects.now sums self }
+    fn bear_timed(&self, subjects: &[u64], sums: Sums) -> Borne
+        requires { Sound self.now × Ample sums × (is_timed self.now.terms ≡ true) }
+        ensures { result ≡ borne_through subjects.now sums self.now }
     {
-        let terms = self.terms;
         let mut spent = self.spent;
-        let mut premium = terms.premium_at(spent);
+        let mut premium = self.terms.premium_at(spent);
         let mut due = Placed::none();
-        let mut i: usize = 0;
-        while i < subjects.len() {
-            let after = terms.spent_after(spent, subjects[i]);
-            i += 1;
-            if spent.cents() < after.cents() {
-                let later = terms.premium_at(after);
-                due = due.plus(later.less(premium).at_time(sums.share));
-                premium = later;
-                spent = after;
+        for subject in subjects {
+            let after = self.terms.spent_after(spent, *subject);
+            if after.cents() <= spent.cents() {
+                continue;
             }
+            let later = self.terms.premium_at(after);
+            due = due.plus(later.less(premium).at_time(sums.share));
+            premium = later;
+            spent = after;
         }
         let timed = self.timed.plus(due);
         let layer = Layer {
-            terms,
             spent,
             timed,
+            ..*self
         };
         let recovery = layer.recovery_since(self);
         Borne {
             layer,
             sums: Sums {
-                share: sums.share,
                 recovered: sums.recovered.plus(recovery),
                 premium: sums.premium.plus(due),
+                ..sums
             },
         }
     }
 
     // The same for every layer. Without time the single recoveries and premiums add up to those of all losses at once.
-    fn bear_by_kind(self, subjects: &[u64], sums: Sums) -> Borne
-        requires { Sound self × Ample sums }
-        ensures { result ≡ borne_through subjects.now sums self }
+    fn bear_by_kind(&self, subjects: &[u64], sums: Sums) -> Borne
+        requires { Sound self.now × Ample sums }
+        ensures { result ≡ borne_through subjects.now sums self.now }
     {
         if self.terms.is_timed() {
             return self.bear_timed(subjects, sums);
@@ -199,19 +217,13 @@ impl Layer {
         requires { Sound self × Ample sums }
         ensures { result ≡ borne_through subjects.now sums self }
     {
-        let terms = self.terms;
         let borne = self.bear_by_kind(subjects, sums);
-        let after = borne.layer;
-        let spent = after.spent;
-        let timed = after.timed;
-        let sums = borne.sums;
         Borne {
             layer: Layer {
-                terms,
-                spent,
-                timed,
+                terms: self.terms,
+                ..borne.layer
             },
-            sums,
+            sums: borne.sums,
         }
     }
 

@@ -12,7 +12,8 @@ pub const RATES: usize = 20;
 
 // Attachment, limit, deductible and premium are at 100% of the layer; placed share and rates are in basis points. The
 // first rates, as many as reinstatements, are used; every other is 0. `time` is 1 where premium is by amount and time,
-// and 0 elsewhere.
+// and 0 elsewhere: C may lend any number there, and only a number keeps it. A caller may hand in any numbers: that
+// terms are in range stands in contracts, and is no invariant of the type.
 #[repr(C)]
 #[derive(Clone, Copy)]
 pub struct Terms {
@@ -28,90 +29,87 @@ pub struct Terms {
 
 impl Terms {
     // Whether premium is by amount and time.
-    pub fn is_timed(self) -> bool
-        ensures { result ≡ is_timed self }
+    pub fn is_timed(&self) -> bool
+        ensures { result ≡ is_timed self.now }
     {
         self.time == 1
     }
 
     // The loss that a subject amount brings.
-    pub fn brings(self, subject: u64) -> Whole
-        ensures { result.0 ≡ brought_by self subject }
+    pub fn brings(&self, subject: u64) -> Whole
+        ensures { result.0 ≡ brought_by self.now subject }
     {
         let above = Whole::new(subject).less(Whole::new(self.attachment));
         above.at_most(Whole::new(self.limit))
     }
 
     // The most that a year's losses can spend.
-    pub fn cap(self) -> Whole
-        requires { InRange self }
-        ensures { result.0 ≡ cap_of self }
+    pub fn cap(&self) -> Whole
+        requires { InRange self.now }
+        ensures { result.0 ≡ cap_of self.now }
     {
         Whole::new(self.deductible + self.limit * (self.reinstatements + 1))
     }
 
     // The spent amount after the loss that a subject amount brings.
-    pub fn spent_after(self, spent: Whole, subject: u64) -> Whole
-        requires { InRange self × (spent.0 ≤ cap_of self) }
-        ensures { result.0 ≡ cut_at_cap self (spent.0 + brought_by self subject) }
+    pub fn spent_after(&self, spent: Whole, subject: u64) -> Whole
+        requires { InRange self.now × (spent.0 ≤ cap_of self.now) }
+        ensures { result.0 ≡ cut_at_cap self.now (spent.0 + brought_by self.now subject) }
     {
         spent.plus(self.brings(subject)).at_most(self.cap())
     }
 
     // An amount of the layer at its placed share; used amounts are at most the limit and its reinstatements.
-    pub fn placed_share(self, amount: Whole) -> Placed
-        requires { InRange self × (amount.0 ≤ 21 * self.limit) }
-        ensures { result.0 ≡ placed_of self amount.0 }
+    pub fn placed_share(&self, amount: Whole) -> Placed
+        requires { InRange self.now × (amount.0 ≤ 21 * self.now.limit) }
+        ensures { result.0 ≡ placed_of self.now amount.0 }
     {
         amount.placed_share(self.placed)
     }
 
     // Each slice of a used amount at the rate of its reinstatement, added. Above the used amount there are none.
-    fn rated(self, used: Whole) -> Rated
-        requires { InRange self × (used.0 ≤ 21 * self.limit) }
-        ensures { result.0 ≡ rated_of self used.0 }
+    fn rated(&self, used: Whole) -> Rated
+        requires { InRange self.now × (used.0 ≤ 21 * self.now.limit) }
+        ensures { result.0 ≡ rated_of self.now used.0 }
     {
-        let rates = self.rates;
         let count = self.reinstatements as usize;
         let limit = Whole::new(self.limit);
         let mut sum = Rated::none();
         let mut below = Placed::none();
         let mut end = Whole::new(0);
-        let mut i: usize = 0;
-        while i < count {
+        for rate in &self.rates[..count] {
             if used.cents() <= end.cents() {
                 return sum;
             }
             end = end.plus(limit);
             let above = self.placed_share(used.at_most(end));
-            sum = sum.plus(above.less(below).at_rate(rates[i]));
+            sum = sum.plus(above.less(below).at_rate(*rate));
             below = above;
-            i += 1;
         }
         sum
     }
 
     // The year's premium for a used amount.
-    pub fn premium_for(self, used: Whole) -> Placed
-        requires { InRange self × (used.0 ≤ 21 * self.limit) }
-        ensures { result.0 ≡ rounded (rated_of self used.0 * self.premium) (10000 * self.limit) }
+    pub fn premium_for(&self, used: Whole) -> Placed
+        requires { InRange self.now × (used.0 ≤ 21 * self.now.limit) }
+        ensures { result.0 ≡ rounded (rated_of self.now used.0 * self.now.premium) (10000 * self.now.limit) }
     {
         let rated = self.rated(used);
         rated.premium(Whole::new(self.premium), Whole::new(self.limit))
     }
 
     // The same for a spent amount.
-    pub fn premium_at(self, spent: Whole) -> Placed
-        requires { InRange self × (spent.0 ≤ cap_of self) }
-        ensures { result.0 ≡ premium_of self spent.0 }
+    pub fn premium_at(&self, spent: Whole) -> Placed
+        requires { InRange self.now × (spent.0 ≤ cap_of self.now) }
+        ensures { result.0 ≡ premium_of self.now spent.0 }
     {
         self.premium_for(spent.less(Whole::new(self.deductible)))
     }
 
     // The most that the year's timed premium may be at a spent amount: the amount premium, and 0 without time.
-    pub fn timed_most(self, spent: Whole) -> Placed
-        requires { InRange self × (spent.0 ≤ cap_of self) }
-        ensures { result.0 ≡ timed_most self spent.0 }
+    pub fn timed_most(&self, spent: Whole) -> Placed
+        requires { InRange self.now × (spent.0 ≤ cap_of self.now) }
+        ensures { result.0 ≡ timed_most self.now spent.0 }
     {
         if self.is_timed() {
             return self.premium_at(spent);
@@ -120,10 +118,10 @@ impl Terms {
     }
 
     // What it grows by from one used amount to another: of terms with twenty rates, one copy serves both.
-    pub fn premium_between(self, before: Whole, after: Whole) -> Placed
-        requires { InRange self × (before.0 ≤ 21 * self.limit) × (after.0 ≤ 21 * self.limit) }
-        ensures { result.0 ≡ rounded (rated_of self after.0 * self.premium) (10000 * self.limit)
-            - rounded (rated_of self before.0 * self.premium) (10000 * self.limit) }
+    pub fn premium_between(&self, before: Whole, after: Whole) -> Placed
+        requires { InRange self.now × (before.0 ≤ 21 * self.now.limit) × (after.0 ≤ 21 * self.now.limit) }
+        ensures { result.0 ≡ rounded (rated_of self.now after.0 * self.now.premium) (10000 * self.now.limit)
+            - rounded (rated_of self.now before.0 * self.now.premium) (10000 * self.now.limit) }
     {
         self.premium_for(after).less(self.premium_for(before))
     }

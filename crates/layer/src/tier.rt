@@ -9,7 +9,8 @@ use crate::record::{Layer, Sums};
 // The places for the layers of a tier.
 pub const PLACES: usize = 8;
 
-// The layers of a tier, in the first places; the places past the count are unused.
+// The layers of a tier, in the first places; the places past the count are unused. Nothing is allocated, so that the
+// count stands beside an array.
 #[derive(Clone, Copy)]
 pub struct Tier {
     pub layers: [Layer; PLACES],
@@ -25,17 +26,15 @@ pub struct TierBorne {
 
 // Brings each layer of a lent list up to date in its place: amounts come to it, each in turn the subject, and its
 // recoveries and the premiums due are added to the sums. Layer by layer, since none looks at another.
-fn bear_all(layers: &mut [Layer], subjects: &[u64], mut sums: Sums) -> Sums
+pub fn bear_all(layers: &mut [Layer], subjects: &[u64], mut sums: Sums) -> Sums
     requires { SoundLayers layers.old × AmpleForTier sums }
-    ensures { (result ≡ sums_through subjects.now sums layers.old)
-        × (layers.new ≡ layers_through sums.share subjects.now layers.old) }
+    ensures sums { result ≡ sums_through subjects.now sums layers.old }
+    ensures layers { layers.new ≡ layers_through sums.share subjects.now layers.old }
 {
-    let mut i: usize = 0;
-    while i < layers.len() {
-        let borne = layers[i].bear_each(subjects, sums);
-        layers[i] = borne.layer;
+    for layer in layers.iter_mut() {
+        let borne = layer.bear_each(subjects, sums);
+        *layer = borne.layer;
         sums = borne.sums;
-        i = i + 1;
     }
     sums
 }

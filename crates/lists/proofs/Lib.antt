@@ -8,4 +8,3 @@ pub mod Chains
 pub mod Each
 pub mod Fronts
 pub mod Places
-pub mod Rows

@@ -43,7 +43,3 @@ module _ {A : Type 0} (i n : ℕ) (l : List A) (h : i ≡ n) where
 
   pub sum-end : (g : A → ℕ) (s : ℕ) {t : ℕ} → s + sum_of g (slice i n l) ≡ t → s ≡ t
   sum-end g s e = rw (h, slice_empty, add-zero) at e
-
--- what is known of the length of an array of structs, in a field, is known under a map
-pub unmapped : {A B : Type 0} (g : A → B) (l : List A) {n : ℕ} → length (map g l) ≡ n → length l ≡ n
-unmapped g l e = rw length-map at e

@@ -1,6 +1,7 @@
 -- A list in which each element is tested against a figure of the one before it.
 -- Assumes nothing.
 use Rattle.std.specs.Prelude.{Bool, true, ◌&&◌, List, [], ◌∷◌, ℕ}
+use Rattle.std.specs.List.{list_all}
 
 -- the figure of the last element, n without one
 abbrev pub last_by : {A : Type 0} → (A → ℕ) → ℕ → List A → ℕ
@@ -14,5 +15,4 @@ chained passes figure n (x ∷ xs) = passes n x && chained passes figure (figure
 
 -- every element passes
 abbrev pub every : {A : Type 0} → (A → Bool) → List A → Bool
-every passes [] = true
-every passes (x ∷ xs) = passes x && every passes xs
+every passes xs = list_all passes xs

@@ -2,4 +2,3 @@ pub mod Sums
 pub mod Each
 pub mod Chains
 pub mod Places
-pub mod Rows

@@ -1,7 +1,6 @@
 pub mod Stores
 pub mod Numbers
 pub mod Triples
-pub mod TreatyRows
 pub mod Present
 pub mod RegisterPass
 pub mod RegisteredTreaties

@@ -1,19 +1,17 @@
--- A pass over a table's treaties that keeps the numbers of each in the row of its number.
+-- A pass over a table's treaties that puts each in the place of its number.
 -- Assumes nothing.
 use mathlib.Core.Path.{◌≡◌, refl, sym, ap, ◌∙◌}
 use mathlib.Core.Bool.{Bool, true, false, cond}
-use mathlib.Core.List.{List, [], ◌∷◌, map}
-use Prim.Native.Nat.{ℕ, suc, ◌+◌, ◌*◌, ◌^◌, ◌≤◌, ◌<◌}
+use mathlib.Core.List.{List, [], ◌∷◌}
+use Prim.Native.Nat.{ℕ, suc, ◌+◌, ◌≤◌, ◌<◌}
 use native.Mathlib.Numerals.{add-one}
 use native.Mathlib.Omega.{arith}
 use borrow.Author.Tests.{ne_eqb, eqb-true, eqb-false}
 use lib.Dec.{eqb}
-use lib.ListN.{length, get_or, set, replicate}
-use lib.Seq.{sets, length-sets, slice, slice-cons, slice_empty, get_or-set_same, get_or-set_other}
+use lib.ListN.{length, get_or, set, drop, replicate, length-set, drop_of_length-le}
+use lib.Seq.{drop-cons, get_or-set_same, get_or-set_other}
 use Rattle.lists.specs.Chains.{chained}
-use Rattle.lists.specs.Rows.{rows}
 use Rattle.lists.proofs.Chains.{both}
-use Rattle.lists.proofs.Rows.{rows-length, row_set}
 use Rattle.treaty.specs.declared.Treaty.{Treaty}
 use Rattle.treaty.proofs.Losses.{Numbered}
 use Rattle.programme.specs.declared.contract.Treaties.{Treaties}
@@ -24,147 +22,117 @@ use Rattle.programme.proofs.Bounds.{treaty_in_range}
 use Rattle.programme.proofs.Lawful.{treaty-passed}
 use Rattle.programme.proofs.Validity.{places_tell, treaties_tell}
 use Rattle.year.proofs.Treaties.{passed-numbers, passed-rising}
-use Rattle.losses.specs.Treaties.{with_number, numbered, treaty_numbers, treaty_from, places_from}
-use Rattle.losses.specs.Treaties.{present, treaties_from, Registered}
+use Rattle.losses.specs.Treaties.{with_number, numbered, present, treaties_from, Registered}
 use Rattle.losses.proofs.Numbers.{at-number, nine-places}
 use Rattle.losses.proofs.Present.{present-numbered}
 
--- the numbers of the treaty with a number
-abbrev numbers_with : List Treaty → ℕ → List ℕ
-numbers_with ts n = treaty_numbers (with_number ts n)
+-- what the place of a number holds when treaties are put in theirs, where p stood before, if no two have the same number
+abbrev place_after : List Treaty → (p : Treaty) → ℕ → Treaty
+place_after [] p n = p
+place_after (t ∷ ts) p n = cond (eqb n t.number) t (place_after ts p n)
 
--- the row of a number when the numbers of treaties are kept, where `row` stood before, if no two have the same number
-abbrev row_after : List Treaty → (row : List ℕ) → ℕ → List ℕ
-row_after [] row n = row
-row_after (t ∷ ts) row n = cond (eqb n t.number) (treaty_numbers t) (row_after ts row n)
-
--- treaties with higher numbers are kept elsewhere
-row_above : (m : ℕ) (ts : List Treaty) → Numbered m ts → (row : List ℕ) (n : ℕ) → n ≤ m → row_after ts row n ≡ row
-row_above m [] e row n h = refl
-row_above m (t ∷ ts) e row n h =
+-- treaties with higher numbers are put elsewhere
+place_above : (m : ℕ) (ts : List Treaty) → Numbered m ts → (p : Treaty) (n : ℕ) → n ≤ m → place_after ts p n ≡ p
+place_above m [] e p n h = refl
+place_above m (t ∷ ts) e p n h =
     rw (ne_eqb n t.number (λ q. omega (arith, e.0)))
-    (row_above t.number ts e.1 row n (omega (arith, e.0)))
+    (place_above t.number ts e.1 p n (omega (arith, e.0)))
 
--- over zeros, each row has the numbers of the treaty with its number
-rows-kept : (ts : List Treaty) (n : ℕ) → row_after ts (treaty_numbers no_treaty) n ≡ numbers_with ts n
-rows-kept [] n = refl
-rows-kept (t ∷ ts) n = ap (cond (eqb n t.number) (treaty_numbers t)) (rows-kept ts n) ∙ either (eqb n t.number)
-  where
-    either : (b : Bool) → cond b (treaty_numbers t) (numbers_with ts n) ≡ treaty_numbers (cond b t (with_number ts n))
-    either true = refl
-    either false = refl
+-- where no treaty stood before, each place holds the treaty with its number
+places-kept : (ts : List Treaty) (n : ℕ) → place_after ts no_treaty n ≡ with_number ts n
+places-kept [] n = refl
+places-kept (t ∷ ts) n = ap (cond (eqb n t.number) t) (places-kept ts n)
 
--- Of the treaties t, k in number, the first i have their numbers in the rows of ns: those ahead give the whole answer.
-pub record Keeping (t : Treaties) (k : ℕ) (ns : List ℕ) (i : ℕ) : Type 0 where
-  pub within : i ≤ k
-  pub few : k ≤ 8
-  pub inside : length t.places ≡ 8
-  pub size : length ns ≡ 63
-  pub passing : chained treaty_passes treaty_number 0 (treaties_in t) ≡ true
+-- Of the treaties ts the first i stand in the places ps of their numbers: those ahead give the whole answer.
+pub record Keeping (ts ps : List Treaty) (i : ℕ) : Type 0 where
+  pub size : length ps ≡ 9
+  pub passing : chained treaty_passes treaty_number 0 ts ≡ true
   pub number : ℕ
-  pub passes : chained treaty_passes treaty_number number (slice i k t.places) ≡ true
-  pub rest : (n : ℕ) → n ≤ 8
-      → row_after (slice i k t.places) (get_or (rows 7 9 ns) n []) n ≡ numbers_with (treaties_in t) n
+  pub passes : chained treaty_passes treaty_number number (drop i ts) ≡ true
+  pub rest : (n : ℕ) → n ≤ 8 → place_after (drop i ts) (get_or ps n no_treaty) n ≡ with_number ts n
 
--- before the first there are zeros
-pub none_kept : (t : Treaties) → valid_treaties t ≡ true → Keeping t t.count (replicate 63 0) 0
-unfolding rows
-none_kept t v =
+pub few : (t : Treaties) → valid_treaties t ≡ true → t.count ≤ 8
+few t v = (places_tell treaty_unused t.count t.places (treaties_tell t v).0).1
+
+-- before the first there are none
+pub none_kept : (t : Treaties) → valid_treaties t ≡ true → (p : Treaty) → p ≡ no_treaty
+    → Keeping (treaties_in t) (replicate 9 p) 0
+none_kept t v p none =
     let g = treaties_tell t v in
-    let p = places_tell treaty_unused t.count t.places g.0 in
     record {
-      within = omega arith;
-      few = p.1;
-      inside = p.0;
       size = refl;
       passing = g.1;
       number = 0;
       passes = g.1;
-      rest = λ n h. rw (at-number (λ m. treaty_numbers no_treaty) [] n h) (rows-kept (treaties_in t) n);
+      rest = λ n h.
+          ap (λ (q : Treaty). place_after (treaties_in t) q n) (at-number (λ m. p) no_treaty n h ∙ none)
+          ∙ places-kept (treaties_in t) n;
     }
 
-module _ {t : Treaties} {k : ℕ} {ns : List ℕ} {i : ℕ} (g : Keeping t k ns i) where
-  module _ (more : i < k) where
+module _ {ts ps : List Treaty} {i : ℕ} (g : Keeping ts ps i) where
+  module _ (more : i < length ts) where
     abbrev treaty : Treaty
-    treaty = get_or t.places i no_treaty
+    treaty = get_or ts i no_treaty
 
     abbrev ahead : List Treaty
-    ahead = slice (suc i) k t.places
+    ahead = drop (suc i) ts
 
-    one-ahead : slice i k t.places ≡ treaty ∷ ahead
-    one-ahead = slice-cons i k t.places no_treaty more (omega (arith, g.few, g.inside))
+    one-ahead : drop i ts ≡ treaty ∷ ahead
+    one-ahead = drop-cons ts i no_treaty more
 
     next-passes : (treaty_passes g.number treaty ≡ true)
         × (chained treaty_passes treaty_number treaty.number ahead ≡ true)
     next-passes = both _ _ (rw one-ahead at g.passes)
 
-    pub in_row : treaty.number ≤ 8
-    in_row = (treaty_in_range treaty (treaty-passed g.number treaty next-passes.0).0).number-high
+    number_le : treaty.number ≤ 8
+    number_le = (treaty_in_range treaty (treaty-passed g.number treaty next-passes.0).0).number-high
 
-    pub place-small : (row : List ℕ) → row ≡ treaty_numbers treaty → 7 * treaty.number + length row < 2 ^ 63
-    place-small row e = omega (arith, in_row, ap length e)
+    pub number-high : treaty.number < 9
+    number-high = omega (arith, number_le)
 
-    -- each row after this treaty's numbers are kept
-    row_kept : (n : ℕ) (b : Bool) → eqb n treaty.number ≡ b
-        → cond b (treaty_numbers treaty) (row_after ahead (get_or (rows 7 9 ns) n []) n) ≡ numbers_with (treaties_in t) n
-        → row_after ahead (get_or (set (rows 7 9 ns) treaty.number (treaty_numbers treaty)) n []) n
-        ≡ numbers_with (treaties_in t) n
-    row_kept n true q e =
+    -- each place after this treaty is put in its own
+    place_kept : (n : ℕ) (b : Bool) → eqb n treaty.number ≡ b
+        → cond b treaty (place_after ahead (get_or ps n no_treaty) n) ≡ with_number ts n
+        → place_after ahead (get_or (set ps treaty.number treaty) n no_treaty) n ≡ with_number ts n
+    place_kept n true q e =
         let same : n ≡ treaty.number = eqb-true n treaty.number q in
         let rising = passed-rising treaty.number ahead next-passes.1 in
-        rw (
-          same,
-          get_or-set_same (rows 7 9 ns) treaty.number (treaty_numbers treaty) []
-              (omega (arith, rows-length 7 9 ns, in_row)),
-        )
-        (row_above treaty.number ahead rising (treaty_numbers treaty) treaty.number (omega arith)
+        rw (same, get_or-set_same ps treaty.number treaty no_treaty (omega (arith, g.size, number-high)))
+        (place_above treaty.number ahead rising treaty treaty.number (omega arith)
         ∙ e
-        ∙ ap (numbers_with (treaties_in t)) same)
-    row_kept n false q e =
-        rw (get_or-set_other (rows 7 9 ns) treaty.number n (treaty_numbers treaty) [] (eqb-false n treaty.number q))
+        ∙ ap (with_number ts) same)
+    place_kept n false q e =
+        rw (get_or-set_other ps treaty.number n treaty no_treaty (eqb-false n treaty.number q))
         e
 
     -- one treaty more
-    pub one_kept : (row ns' : List ℕ) → row ≡ treaty_numbers treaty → ns' ≡ sets ns (7 * treaty.number) row
-        → Keeping t k ns' (i + 1)
-    one_kept row ns' e p = rw (add-one i) record {
-      within = omega arith;
-      few = g.few;
-      inside = g.inside;
-      size = ap length p ∙ length-sets ns (7 * treaty.number) row ∙ g.size;
+    pub one_kept : Keeping ts (set ps treaty.number treaty) (i + 1)
+    one_kept = rw (add-one i) record {
+      size = length-set ps treaty.number treaty ∙ g.size;
       passing = g.passing;
       number = treaty.number;
       passes = next-passes.1;
-      rest = λ n h.
-          rw (p, row_set 7 9 ns treaty.number row (ap length e) (omega (arith, g.size)) (omega (arith, in_row)), e)
-          (row_kept n (eqb n treaty.number) refl (rw one-ahead at (g.rest n h)));
+      rest = λ n h. place_kept n (eqb n treaty.number) refl (rw one-ahead at (g.rest n h));
     }
 
   -- none is left
-  module _ (ended : k ≤ i) where
-    abbrev table : List Treaty
-    table = treaties_in t
+  module _ (ended : length ts ≤ i) where
+    placed : ps ≡ numbered ts
+    placed =
+        nine-places (with_number ts) no_treaty ps g.size
+        (λ n h. rw (drop_of_length-le ts {i = i} ended) at (g.rest n h))
 
-    places-kept : places_from ns ≡ numbered table
-    unfolding places_from
-    places-kept =
-        let e : i ≡ k = omega (arith, g.within) in
-        ap (map treaty_from)
-        (nine-places (numbers_with table) [] (rows 7 9 ns) (rows-length 7 9 ns)
-        (λ n h. rw (e, slice_empty) at (g.rest n h)))
-
-    treaties-kept : treaties_from ns ≡ table
+    treaties-kept : treaties_from ps ≡ ts
     unfolding treaties_from
     treaties-kept =
-        ap present places-kept
-        ∙ present-numbered table (passed-rising 0 table g.passing) (passed-numbers 0 table g.passing)
+        ap present placed ∙ present-numbered ts (passed-rising 0 ts g.passing) (passed-numbers 0 ts g.passing)
 
-    pub all-kept : (treaties_from ns ≡ table) × Registered ns
+    pub all-kept : (treaties_from ps ≡ ts) × Registered ps
     all-kept = (
       treaties-kept,
       record {
         size = g.size;
-        places = places-kept ∙ ap numbered (sym treaties-kept);
+        places = placed ∙ ap numbered (sym treaties-kept);
         passes = rw treaties-kept g.passing;
       },
     )

@@ -1,10 +1,12 @@
--- What treaties by number, as numbers, keep to, and which numbers they lack.
+-- What treaties by number keep to, and which numbers they lack.
 -- Assumes nothing.
 use mathlib.Core.Path.{◌≡◌, sym, ap, ◌∙◌}
-use mathlib.Core.Bool.{true, cond}
+use mathlib.Core.Bool.{Bool, true, false, cond, not}
 use mathlib.Core.List.{List}
 use Prim.Native.Nat.{ℕ, ◌≤◌, ◌<◌}
 use native.Mathlib.Omega.{arith}
+use borrow.Author.Tests.{eqb-true, eqb-false}
+use lib.Dec.{eqb}
 use lib.ListN.{get_or}
 use Rattle.lists.specs.Each.{Each}
 use Rattle.lists.specs.Chains.{chained}
@@ -19,7 +21,7 @@ use Rattle.programme.proofs.Bounds.{treaty_in_range}
 use Rattle.programme.proofs.Lawful.{treaty-passed}
 use Rattle.events.specs.Rules.{in_table}
 use Rattle.year.proofs.Treaties.{passed-cedes, passed-numbers, passed-rising}
-use Rattle.losses.specs.Treaties.{with_number, places_from, treaties_from, Registered}
+use Rattle.losses.specs.Treaties.{with_number, treaties_from, Registered}
 use Rattle.losses.proofs.Numbers.{
   at-number,
   each-numbered,
@@ -35,7 +37,7 @@ passed-terms ts e =
     each-chained TermsInRange treaty_passes treaty_number
     (λ n t e. (treaty_in_range t (treaty-passed n t e).0).terms) 0 ts e
 
-module _ {register : List ℕ} (r : Registered register) where
+module _ {register : List Treaty} (r : Registered register) where
   abbrev table : List Treaty
   table = treaties_from register
 
@@ -48,10 +50,10 @@ module _ {register : List ℕ} (r : Registered register) where
   pub rising : Numbered 0 table
   rising = passed-rising 0 table r.passes
 
-  pub places-terms : Each TermsInRange (places_from register)
+  pub places-terms : Each TermsInRange register
   places-terms = rw r.places (numbered-terms table (passed-terms table r.passes))
 
-  pub numbers-below : Each (λ (t : Treaty). t.number < 9) (places_from register)
+  pub numbers-below : Each (λ (t : Treaty). t.number < 9) register
   numbers-below =
       rw r.places
       (each-numbered (λ (t : Treaty). t.number < 9) (omega arith) table
@@ -59,24 +61,20 @@ module _ {register : List ℕ} (r : Registered register) where
 
   module _ (n : ℕ) where
     -- l says whether the table lacks n
-    abbrev Says : ℕ → Type 0
-    Says l = (l ≡ cond (in_table table n) 0 1) × (l ≤ 1)
+    abbrev Says : Bool → Type 0
+    Says l = l ≡ cond (in_table table n) false true
 
-    module _ (h : n < 9) (m : ℕ) (is : m ≡ (get_or (places_from register) n no_treaty).number) where
-      number_is : m ≡ (with_number table n).number
+    module _ (h : n < 9) where
+      number_is : (get_or register n no_treaty).number ≡ (with_number table n).number
       number_is =
-          is
-          ∙ ap (λ (ts : List Treaty). (get_or ts n no_treaty).number) r.places
+          ap (λ (ts : List Treaty). (get_or ts n no_treaty).number) r.places
           ∙ ap (λ (t : Treaty). t.number) (at-number (with_number table) no_treaty n (omega arith))
 
-      -- it has a number that stands in its own place
-      pub has : m ≡ n → Says 0
-      has e = (rw (number-stands table n (sym number_is ∙ e)), omega arith)
-
-      -- it lacks any other
-      pub lacks_within : (m ≡ n → ⊥) → Says 1
-      lacks_within e = (rw (number_lacks table n (λ q. e (number_is ∙ q))), omega arith)
+      -- it has a number that stands in its own place, and lacks any other
+      pub lacks_within : (b : Bool) → eqb (get_or register n no_treaty).number n ≡ b → Says (not b)
+      lacks_within true e = rw (number-stands table n (sym number_is ∙ eqb-true _ _ e))
+      lacks_within false e = rw (number_lacks table n (λ q. eqb-false _ _ e (number_is ∙ q)))
 
     -- and those above 8
-    pub lacks_above : 9 ≤ n → Says 1
-    lacks_above h = (rw (number-lacking table numbers-le n (omega arith)), omega arith)
+    pub lacks_above : 9 ≤ n → Says true
+    lacks_above h = rw (number-lacking table numbers-le n (omega arith))

@@ -3,6 +3,7 @@
 -- Assumes nothing.
 use Rattle.std.specs.Prelude.{◌≡◌, List, [], ◌∷◌, ◌++◌, ℕ, ◌^◌, ◌≤◌, length}
 use Rattle.lists.specs.Each.{Each}
+use Rattle.treaty.specs.declared.Treaty.{Treaty}
 use Rattle.treaty.specs.declared.Loss.{Loss}
 use Rattle.treaty.specs.Ranges.{LossInRange}
 use Rattle.events.specs.Event.{Event}
@@ -21,7 +22,7 @@ events_numbers (e ∷ es) = e.day ∷ length e.losses ∷ (loss_numbers e.losses
 
 -- What it takes to put losses through treaties: a table's treaties by their numbers, losses in range, at most 64 of
 -- them, and a place for each number whose amount leaves room for what is ceded.
-pub record CanCedeEach (register ns cs : List ℕ) : Type 0 where
+pub record CanCedeEach (register : List Treaty) (ns cs : List ℕ) : Type 0 where
   pub registered : Registered register
   pub losses : Each LossInRange (losses_from ns)
   pub few : length (losses_from ns) ≤ 64

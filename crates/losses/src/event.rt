@@ -6,8 +6,9 @@ ghost use Rattle.losses.specs.Cede.{losses_from, AfterTreaties};
 ghost use Rattle.losses.specs.Treaties.{treaties_from};
 ghost use Rattle.losses.specs.Event.{CanCedeEach};
 
+use crate::kept;
 use crate::treaties::NUMBERS;
-use crate::{kept, treaties};
+use treaty::Treaty;
 
 // What an event's losses come to under the treaties: their amounts and what is ceded of them, added.
 #[derive(Clone, Copy)]
@@ -19,7 +20,7 @@ pub struct ByTreaties {
 // Puts the losses, three numbers each (T, E, g), through their treaties. What is left of each goes to `left`; at place
 // T `cessions` gains what treaty T cedes.
 pub fn cede_each(
-    register: &[u64],
+    register: &[Treaty],
     losses: &[u64],
     left: &mut [u64],
     cessions: &mut [u64],
@@ -36,18 +37,15 @@ pub fn cede_each(
     let mut taken = [0u64; NUMBERS];
     let mut gross: u64 = 0;
     let mut ceded: u64 = 0;
-    let mut i: usize = 0;
-    while i < count {
+    for i in 0..count {
         let loss = kept::loss_at(losses, i);
         let number = loss.treaty as usize;
-        let t = treaties::treaty_at(register, number);
-        let cession = t.cede(taken[number], loss);
+        let cession = register[number].cede(taken[number], loss);
         left[i] = cession.left;
         taken[number] = cession.taken;
         cessions[number] += cession.ceded;
         gross += loss.amount;
         ceded += cession.ceded;
-        i += 1;
     }
     ByTreaties { gross, ceded }
 }

@@ -1,5 +1,6 @@
 // Events as numbers in a lent slice: the day of each and how many losses it has, then three numbers for each loss (T,
-// E, g). No other file knows where a number stands.
+// E, g). No other file knows where a number stands. Memory is fixed: with heads and losses in one slice three numbers
+// do for 13 bytes of text, and a slice of structs for each would need places for the most of both.
 ghost use Rattle.std.specs.Prelude.{[], ◌∷◌, ◌≡◌, ◌+◌, ◌*◌, ◌^◌, ◌<◌, length, get_or};
 ghost use Rattle.text.specs.Buffer.{Put};
 ghost use Rattle.treaty.specs.Treaty.{loss_of};

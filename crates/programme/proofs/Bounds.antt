@@ -1,12 +1,13 @@
--- Numbers within and outside their ranges.
+-- Numbers within their ranges.
 -- Assumes nothing.
 use mathlib.Core.Path.{◌≡◌, refl}
 use mathlib.Core.Bool.{Bool, true, false}
 use mathlib.Core.Logic.{◌⊎◌, inl, inr}
-use Prim.Native.Nat.{ℕ, ◌+◌, ◌*◌, ◌^◌, ◌≤◌, ◌<◌}
+use Prim.Native.Nat.{ℕ, ◌+◌, ◌*◌, ◌^◌, ◌≤◌}
 use native.Mathlib.Omega.{arith}
-use borrow.Author.Tests.{eq-eqb, ne_eqb, le-leb, lt-leb, leb-true, eqb-true}
-use lib.Dec.{leb, eqb}
+use Rattle.std.proofs.lemmas.Bool.Decides.{nat_tests}
+use borrow.Author.Tests.{eqb-true}
+use lib.Dec.{eqb}
 use lib.ListN.{take}
 use Rattle.treaty.specs.declared.Treaty.{Treaty}
 use Rattle.treaty.specs.Ranges.{TermsInRange}
@@ -16,41 +17,10 @@ use Rattle.layer.specs.Ranges.{InRange}
 use Rattle.programme.specs.Ranges.{outside, quota_outside, surplus_outside, treaty_outside, terms_outside}
 use Rattle.programme.proofs.Rates.{rates-small, rates-places, rates-refilled}
 
-module _ (low high n : ℕ) where
-  pub is_below : n < low → 1 ≡ outside low high n
-  unfolding outside
-  is_below h = simp (lt-leb _ _ h)
-
-  pub is-above : low ≤ n → high < n → 1 ≡ outside low high n
-  unfolding outside
-  is-above h k = simp (le-leb _ _ h) (simp (lt-leb _ _ k))
-
-  pub is_within : low ≤ n → n ≤ high → 0 ≡ outside low high n
-  unfolding outside
-  is_within h k = simp (le-leb _ _ h) (simp (le-leb _ _ k))
-
-module _ (t : Treaty) (r : ℕ) where
-  pub kind-quota : t.kind ≡ 1 → r ≡ quota_outside t → r ≡ treaty_outside t
-  unfolding treaty_outside
-  kind-quota h e = simp (eq-eqb _ _ h) e
-
-  pub kind-surplus : t.kind ≡ 2 → r ≡ surplus_outside t → r ≡ treaty_outside t
-  unfolding treaty_outside
-  kind-surplus h e = rw h e
-
-pub kind-neither : (t : Treaty) → (t.kind ≡ 1 → ⊥) → (t.kind ≡ 2 → ⊥) → 1 ≡ treaty_outside t
-unfolding treaty_outside
-kind-neither t h k = simp (ne_eqb _ _ h) (simp (ne_eqb _ _ k))
-
 -- no number is outside: each is within its range
 pub within : (low high n : ℕ) → outside low high n ≡ 0 → (low ≤ n) × (n ≤ high)
 unfolding outside
-within low high n = go (leb low n) (leb n high) refl refl
-  where
-    go : (a b : Bool) → leb low n ≡ a → leb n high ≡ b → outside low high n ≡ 0 → (low ≤ n) × (n ≤ high)
-    go true true e f z = (leb-true low n e, leb-true n high f)
-    go true false e f z = let no : ◌≡◌ {A = ℕ} 1 0 = rw (e, f) at z in absurd (omega arith)
-    go false b e f z = let no : ◌≡◌ {A = ℕ} 1 0 = rw e at z in absurd (omega arith)
+within low high n z = (grind (arith, nat_tests), grind (arith, nat_tests))
 
 -- a layer in range
 pub terms_in_range : (l : Terms) → terms_outside l ≡ 0 → InRange l

@@ -11,10 +11,10 @@ use Rattle.treaty.specs.Treaty.{quota_of, surplus_of}
 use Rattle.layer.specs.declared.terms.Terms.{Terms}
 use Rattle.layer.specs.Layer.{terms_of}
 use Rattle.programme.specs.declared.contract.Programme.{Programme}
-use Rattle.programme.specs.declared.contract.Kind.{Kind}
-use Rattle.programme.specs.declared.contract.Kind.TheVariants as kind
-use Rattle.programme.specs.Contract.{Proportional, Risk, Cat, contract_of, Contracts, no_contracts}
+use Rattle.programme.specs.declared.contract.Contract.TheVariants.{Proportional, Risk, Cat}
+use Rattle.programme.specs.Contract.{Contracts, no_contracts}
 use Rattle.programme.specs.Contract.{with_contract, contracts_in_order, programme_of, contracts_in}
+use Rattle.programme.specs.Contract.{place_of, programme_with}
 use Rattle.programme.specs.Ranges.{outside, treaty_outside, rates_outside, terms_outside}
 use Rattle.programme.specs.Ranges.{treaty_not_zero, terms_not_zero}
 use Rattle.programme.specs.Rules.{treaty_fault, layer_fault, fault_of}
@@ -196,11 +196,19 @@ pub record Corners : Type 0 where
       ∷ terms 0 0 0 1 0 0 no_rates 0 ∷ terms 0 0 0 0 1 0 no_rates 0 ∷ terms 0 0 0 0 0 1 no_rates 0
       ∷ terms 0 0 0 0 0 0 one_rate 0 ∷ terms 0 0 0 0 0 0 (take 19 no_rates ++ (1 ∷ [])) 0
       ∷ terms 0 0 0 0 0 0 (take 19 no_rates) 0 ∷ terms 0 0 0 0 0 0 no_rates 1 ∷ []) ≡ replicate 10 1
-  -- a contract by its kind, with terms beside it
-  pub kinds_of : map (λ (k : Kind). contract_of k (terms_of 7 1 2 1 3 (4 ∷ []) 5 0))
-      (kind.Proportional (quota_of 1 4000 0 0) ∷ kind.Risk ∷ kind.Cat ∷ [])
+  -- contracts by their kind, the same terms in either tier; where each would go, and one more in its place
+  pub kinds_of : contracts_in_order (with_contract (with_contract (with_contract no_contracts
+      (Cat (terms_of 7 1 2 1 3 (4 ∷ []) 5 0))) (Risk (terms_of 7 1 2 1 3 (4 ∷ []) 5 0)))
+      (Proportional (quota_of 1 4000 0 0)))
       ≡ Proportional (quota_of 1 4000 0 0) ∷ Risk (terms_of 7 1 2 1 3 (4 ∷ []) 5 0) ∷ Cat (terms_of 7 1 2 1 3 (4 ∷ []) 5 0)
       ∷ []
+  pub places_of : map (place_of all_held)
+      (Proportional (quota_of 1 4000 0 0) ∷ Risk (terms_of 7 1 2 1 3 (4 ∷ []) 5 0) ∷ Cat (terms_of 7 1 2 1 3 (4 ∷ []) 5 0)
+      ∷ []) ≡ 2 ∷ 1 ∷ 1 ∷ []
+  pub one_more : contracts_in (programme_with (programme_with (programme_with all_held
+      (Proportional (quota_of 7 1 0 0))) (Risk (terms_of 200 1 0 0 0 [] 1 0))) (Cat (terms_of 300 1 0 0 0 [] 2 0)))
+      ≡ with_contract (with_contract (with_contract all_contracts (Proportional (quota_of 7 1 0 0)))
+      (Risk (terms_of 200 1 0 0 0 [] 1 0))) (Cat (terms_of 300 1 0 0 0 [] 2 0))
   -- 4: a treaty of either kind after a risk layer, and after a cat layer
   pub treaties-after-risk : map (fault_of (before [] one_band []))
       (Proportional (quota_of 1 4000 0 0) ∷ Proportional (surplus_of 1 10000 3 0) ∷ []) ≡ 4 ∷ 4 ∷ []
@@ -309,6 +317,8 @@ corners = record {
   terms-unused = refl;
   terms_not_unused = refl;
   kinds_of = refl;
+  places_of = refl;
+  one_more = refl;
   treaties-after-risk = refl;
   treaties-after-cat = refl;
   risk-after-cat = refl;

@@ -1,11 +1,11 @@
 -- Contracts that keep to the rules of a table. The programmes that hold such contracts are the valid ones.
 -- Assumes nothing.
 use mathlib.Core.Path.{◌≡◌, refl, sym}
-use mathlib.Core.Bool.{Bool, true}
+use mathlib.Core.Bool.{Bool, true, ◌&&◌}
 use mathlib.Core.List.{List, [], ◌∷◌}
 use Prim.Native.Nat.{ℕ, ◌+◌, ◌-◌, ◌≤◌, ◌<◌, zero-le}
 use native.Mathlib.Omega.{arith}
-use borrow.Author.Tests.{eqb-true, leb-true, ltb-true}
+use borrow.Author.Tests.{eqb-true, leb-true, ltb-true, le-leb}
 use lib.Dec.{eqb, leb, ltb}
 use lib.ListN.{length, take, drop, replicate, length-drop, take-append-drop}
 use lib.Seq.{length-take-le, take-append_seam}
@@ -28,7 +28,6 @@ use Rattle.programme.specs.Valid.{valid_treaties, valid_layers, valid}
 use Rattle.programme.proofs.Rates.{rates-refilled}
 use Rattle.programme.proofs.Bounds.{within, treaty_in_range}
 use Rattle.programme.proofs.Places.{places-length}
-use Rattle.programme.proofs.Tests.{treaties-tested, layers-tested}
 use Rattle.programme.proofs.Validity.{places_tell, treaties_tell, layers_tell, valid_tells}
 
 -- Each kind keeps to its order, and no tier has more than eight layers. There are no more than eight treaties either,
@@ -137,25 +136,32 @@ unused-terms l e =
     }
 
 -- the programme of lawful contracts is valid
+module _ {A : Type 0} (passes : ℕ → A → Bool) (figure : A → ℕ) (unused : A → Bool) (blank : A) where
+  hold : unused blank ≡ true → (xs : List A) → chained passes figure 0 xs ≡ true → length xs ≤ 8
+      → (eight_places unused (length xs) (in_places blank xs)
+      && chained passes figure 0 (take (length xs) (in_places blank xs))) ≡ true
+  hold z xs e h =
+      let places = in_places blank xs in
+      let rest = rest-unused unused blank z xs in
+      rw (places-length blank xs h, le-leb (length xs) 8 h, ← rest, take-append_seam, e)
+
 layers-valid : (ls : List Terms) → chained layer_passes band_end 0 ls ≡ true → length ls ≤ 8
-    → true ≡ valid_layers (layer_places ls)
-layers-valid ls e h =
-    layers-tested (layer_places ls) true (rest-unused terms_unused no_terms no-terms-unused ls) refl
-    (places-length no_terms ls h) h true (rw take-append_seam (sym e))
+    → valid_layers (layer_places ls) ≡ true
+unfolding valid_layers
+layers-valid = hold layer_passes band_end terms_unused no_terms no-terms-unused
 
 treaties-valid : (ts : List Treaty) → chained treaty_passes treaty_number 0 ts ≡ true → length ts ≤ 8
-    → true ≡ valid_treaties (treaty_places ts)
-treaties-valid ts e h =
-    treaties-tested (treaty_places ts) true (rest-unused treaty_unused no_treaty no-treaty-unused ts) refl
-    (places-length no_treaty ts h) h true (rw take-append_seam (sym e))
+    → valid_treaties (treaty_places ts) ≡ true
+unfolding valid_treaties
+treaties-valid = hold treaty_passes treaty_number treaty_unused no_treaty no-treaty-unused
 
 pub lawful-valid : (c : Contracts) → Lawful c → valid (programme_of c) ≡ true
 unfolding valid
 lawful-valid c g =
     rw (
-      ← treaties-valid c.treaties g.treaties (at-most-eight c g),
-      ← layers-valid c.risk g.risk g.few-risk,
-      ← layers-valid c.cat g.cat g.few-cat,
+      treaties-valid c.treaties g.treaties (at-most-eight c g),
+      layers-valid c.risk g.risk g.few-risk,
+      layers-valid c.cat g.cat g.few-cat,
     )
 
 -- a valid programme is the programme of the contracts in it, and they are lawful

@@ -2,7 +2,6 @@ pub mod Rates
 pub mod Bounds
 pub mod Faults
 pub mod Places
-pub mod Tests
 pub mod Validity
 pub mod Lawful
 pub mod Corners

@@ -86,16 +86,16 @@ module _ {k : ℕ} {qs : List ℕ} {i : ℕ} (g : Looking k qs i) where
     zero_looked q a e = next (zero-fits (k - i) (get_or qs i 0) (drop (i + 1) qs) (sym a ∙ e))
 
     module _ (q : ℕ) (a : q ≡ get_or qs i 0) where
-      pub used_looked : i + 1 ≤ k → q ≤ 20000 → Looking k qs (i + 1)
+      pub used_looked : i < k → q ≤ 20000 → Looking k qs (i + 1)
       used_looked u e =
           next (used-fits (k - i) (get_or qs i 0) (drop (i + 1) qs) (omega arith) (omega (arith, a)))
 
-      pub unused-refused : k < i + 1 → (q ≡ 0 → ⊥) → (1 ≡ rates_outside k qs) × (1 ≤ 1)
+      pub unused-refused : k ≤ i → (q ≡ 0 → ⊥) → (1 ≡ rates_outside k qs) × (1 ≤ 1)
       unused-refused u e =
           let no = unused_fails (k - i) (get_or qs i 0) (drop (i + 1) qs) (omega arith) (λ z. e (a ∙ z)) in
           (sym (outside-is k qs false g.places (ahead ∙ no)), omega arith)
 
-      pub large-refused : i + 1 ≤ k → 20000 < q → (1 ≡ rates_outside k qs) × (1 ≤ 1)
+      pub large-refused : i < k → 20000 < q → (1 ≡ rates_outside k qs) × (1 ≤ 1)
       large-refused u e =
           let no = large_fails (k - i) (get_or qs i 0) (drop (i + 1) qs) (omega arith) (omega (arith, a)) in
           (sym (outside-is k qs false g.places (ahead ∙ no)), omega arith)

@@ -1,6 +1,6 @@
 -- Document 01, The table text: a programme's contracts, and the eight places of each kind that hold them.
 -- Assumes nothing.
-use Rattle.std.specs.Prelude.{List, [], ◌∷◌, ◌++◌, map, length, take}
+use Rattle.std.specs.Prelude.{ℕ, ◌+◌, List, [], ◌∷◌, ◌++◌, map, length, take, set}
 use Rattle.lists.specs.Places.{in_places}
 use Rattle.treaty.specs.declared.Treaty.{Treaty}
 use Rattle.layer.specs.declared.terms.Terms.{Terms}
@@ -8,20 +8,8 @@ use Rattle.layer.specs.Layer.{terms_of}
 use Rattle.programme.specs.declared.contract.Treaties.{Treaties}
 use Rattle.programme.specs.declared.contract.Layers.{Layers}
 use Rattle.programme.specs.declared.contract.Programme.{Programme}
-use Rattle.programme.specs.declared.contract.Kind.{Kind}
-use Rattle.programme.specs.declared.contract.Kind.TheVariants as kind
-
--- what one line of a table says
-pub data Contract : Type 0 where
-  Proportional : Treaty → Contract
-  Risk : Terms → Contract
-  Cat : Terms → Contract
-
--- the contract of a kind, with a layer's terms beside it
-abbrev pub contract_of : Kind → Terms → Contract
-contract_of (kind.Proportional t) l = Proportional t
-contract_of kind.Risk l = Risk l
-contract_of kind.Cat l = Cat l
+use Rattle.programme.specs.declared.contract.Contract.{Contract}
+use Rattle.programme.specs.declared.contract.Contract.TheVariants.{Proportional, Risk, Cat}
 
 -- contracts as a table has them, each kind in the table's order
 pub record Contracts : Type 0 where
@@ -64,6 +52,24 @@ programme_of c = record {
   risk = layer_places c.risk;
   cat = layer_places c.cat;
 }
+
+-- a programme with one more contract, in the first unused place of its kind
+abbrev pub treaties_with : Treaties → Treaty → Treaties
+treaties_with ts t = record { places = set ts.places ts.count t; count = ts.count + 1 }
+
+abbrev pub layers_with : Layers → Terms → Layers
+layers_with ls l = record { places = set ls.places ls.count l; count = ls.count + 1 }
+
+abbrev pub programme_with : Programme → Contract → Programme
+programme_with p (Proportional t) = record { treaties = treaties_with p.treaties t; risk = p.risk; cat = p.cat }
+programme_with p (Risk l) = record { treaties = p.treaties; risk = layers_with p.risk l; cat = p.cat }
+programme_with p (Cat l) = record { treaties = p.treaties; risk = p.risk; cat = layers_with p.cat l }
+
+-- that place
+abbrev pub place_of : Programme → Contract → ℕ
+place_of p (Proportional t) = p.treaties.count
+place_of p (Risk l) = p.risk.count
+place_of p (Cat l) = p.cat.count
 
 -- the contracts of a programme stand in its first places
 abbrev pub treaties_in : Treaties → List Treaty

@@ -1,18 +1,11 @@
 -- What reading keeps from line to line: how many of each kind were read, and their last figures.
 -- Assumes nothing.
 use Rattle.std.specs.Prelude.{ℕ, ◌+◌, ◌≤◌}
-use Rattle.programme.specs.declared.contract.Kind.{Kind}
-use Rattle.programme.specs.declared.contract.Kind.TheVariants as kind
 use Rattle.programme.specs.declared.rule.Last.{Last}
 use Rattle.programme.specs.declared.rule.Before.{Before}
-use Rattle.programme.specs.Contract.{Contract, Proportional, Risk, Cat}
+use Rattle.programme.specs.declared.contract.Contract.{Contract}
+use Rattle.programme.specs.declared.contract.Contract.TheVariants.{Proportional, Risk, Cat}
 use Rattle.programme.specs.Rules.{band_end}
-
--- how many of a contract's kind stand before it: its place
-abbrev pub place_after : Before → Kind → ℕ
-place_after p (kind.Proportional t) = p.treaties.count
-place_after p kind.Risk = p.risk.count
-place_after p kind.Cat = p.cat.count
 
 -- one more of a kind, with its figure
 abbrev pub next_of : Last → ℕ → Last

@@ -6,7 +6,9 @@ use Rattle.treaty.specs.declared.Treaty.{Treaty}
 use Rattle.layer.specs.declared.terms.Terms.{Terms}
 use Rattle.programme.specs.declared.rule.Last.{Last}
 use Rattle.programme.specs.declared.rule.Before.{Before}
-use Rattle.programme.specs.Contract.{Contract, Proportional, Risk, Cat, Contracts}
+use Rattle.programme.specs.declared.contract.Contract.{Contract}
+use Rattle.programme.specs.declared.contract.Contract.TheVariants.{Proportional, Risk, Cat}
+use Rattle.programme.specs.Contract.{Contracts}
 use Rattle.programme.specs.Ranges.{treaty_outside, terms_outside}
 
 -- a treaty's number T

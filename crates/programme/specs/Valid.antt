@@ -1,6 +1,6 @@
 -- Document 01, The table text: what a programme must keep to so that a table text reads to it, as a test on numbers.
 -- Assumes nothing.
-use Rattle.std.specs.Prelude.{Bool, ◌&&◌, List, ℕ, eqb, leb, ltb, length, drop}
+use Rattle.std.specs.Prelude.{Bool, true, false, ◌&&◌, Option, Some, None, List, ℕ, eqb, leb, ltb, length, drop}
 use Rattle.lists.specs.Chains.{chained, every}
 use Rattle.treaty.specs.declared.Treaty.{Treaty}
 use Rattle.layer.specs.declared.terms.Terms.{Terms}
@@ -18,6 +18,11 @@ treaty_passes before t = eqb (treaty_outside t) 0 && ltb before t.number
 -- a layer after the end of the band before it: in range, and the attachment not below that end
 abbrev pub layer_passes : ℕ → Terms → Bool
 layer_passes before l = eqb (terms_outside l) 0 && leb before l.attachment
+
+-- the figure of a place that passes
+abbrev pub figure_if : Bool → ℕ → Option ℕ
+figure_if true n = Some n
+figure_if false n = None
 
 -- an unused place holds nothing but 0
 abbrev pub treaty_unused : Treaty → Bool

@@ -1,6 +1,7 @@
 // A programme: its treaties, risk layers and cat layers, each kind in eight places.
-ghost use Rattle.std.specs.Prelude.{◌≡◌};
+ghost use Rattle.std.specs.Prelude.{◌≡◌, ◌+◌, ◌<◌, set};
 ghost use Rattle.programme.specs.Contract.{no_treaty, no_terms, no_contracts, programme_of};
+ghost use Rattle.programme.specs.Contract.{place_of, programme_with};
 
 use layer::terms::{RATES, Terms};
 use layer::tier;
@@ -17,7 +18,7 @@ pub struct Treaties {
     pub count: usize,
 }
 
-// The layers of one tier; places as above.
+// The layers of one tier; places as above. The header has two structs, one for each kind of place.
 #[repr(C)]
 #[derive(Clone, Copy)]
 pub struct Layers {
@@ -25,6 +26,7 @@ pub struct Layers {
     pub count: usize,
 }
 
+// A caller may hand in any numbers: that a programme is valid stands in contracts, and is no invariant of the type.
 #[repr(C)]
 #[derive(Clone, Copy)]
 pub struct Programme {
@@ -33,30 +35,23 @@ pub struct Programme {
     pub cat: Layers,
 }
 
-// What one line of a table says; a layer's terms stand beside it.
+// What one line of a table says.
 #[derive(Clone, Copy)]
-pub enum Kind {
+pub enum Contract {
     Proportional(Treaty),
-    Risk,
-    Cat,
+    Risk(Terms),
+    Cat(Terms),
 }
 
 // What an unused place holds.
 pub fn no_treaty() -> Treaty
     ensures { result ≡ no_treaty }
 {
-    Treaty {
-        kind: 0,
-        number: 0,
-        cede: 0,
-        capacity: 0,
-        retention: 0,
-        lines: 0,
-        limit: 0,
-    }
+    Treaty::default()
 }
 
-// The same for a layer.
+// The same for a layer, by its numbers: a derived default says of an array, as its rates, no more than that each
+// element is a default.
 pub fn no_terms() -> Terms
     ensures { result ≡ no_terms }
 {
@@ -94,4 +89,30 @@ impl Programme {
             },
         }
     }
+
+    // Holds one more contract, in the first unused place of its kind.
+    pub fn add(&mut self, contract: &Contract)
+        requires { place_of self.old contract.now < 8 }
+        ensures { self.new ≡ programme_with self.old contract.now }
+    {
+        match contract {
+            Contract::Proportional(t) => enter(
+                &mut self.treaties.places,
+                &mut self.treaties.count,
+                t,
+            ),
+            Contract::Risk(l) => enter(&mut self.risk.places, &mut self.risk.count, l),
+            Contract::Cat(l) => enter(&mut self.cat.places, &mut self.cat.count, l),
+        }
+    }
+}
+
+// Puts one more into the first unused place.
+fn enter<P: Copy>(places: &mut [P; PLACES], count: &mut usize, entering: &P)
+    requires { count.old < 8 }
+    ensures places { places.new ≡ set places.old count.old entering.now }
+    ensures count { count.new ≡ count.old + 1 }
+{
+    places[*count] = *entering;
+    *count += 1;
 }

@@ -24,22 +24,17 @@ const PREMIUM: u64 = 1000000000000;
 
 const TIME: u64 = 1;
 
-// 1 for a number outside its range, 0 for one within it.
+// 1 for a number outside its range, 0 for one within it. A count and no test: the numbers of a place are added up, so
+// that no line branches at each of them.
 pub fn outside(low: u64, high: u64, n: u64) -> u64
     ensures { (result ≡ outside low high n) × (result ≤ 1) }
 {
-    if n < low {
-        return 1;
-    }
-    if high < n {
-        return 1;
-    }
-    0
+    u64::from(n < low || high < n)
 }
 
 // How many of a quota share's numbers are outside their range.
-fn quota_outside(t: Treaty) -> u64
-    ensures { result ≡ quota_outside t }
+fn quota_outside(t: &Treaty) -> u64
+    ensures { result ≡ quota_outside t.now }
 {
     outside(1, TREATIES, t.number)
         + outside(0, arith::WHOLE, t.cede)
@@ -50,8 +45,8 @@ fn quota_outside(t: Treaty) -> u64
 }
 
 // How many of a surplus's numbers are outside their range.
-fn surplus_outside(t: Treaty) -> u64
-    ensures { result ≡ surplus_outside t }
+fn surplus_outside(t: &Treaty) -> u64
+    ensures { result ≡ surplus_outside t.now }
 {
     outside(1, TREATIES, t.number)
         + outside(0, AMOUNT, t.retention)
@@ -62,11 +57,10 @@ fn surplus_outside(t: Treaty) -> u64
 }
 
 // How many of a treaty's numbers are outside their range.
-pub fn treaty_outside(t: Treaty) -> u64
-    ensures { result ≡ treaty_outside t }
+pub fn treaty_outside(t: &Treaty) -> u64
+    ensures { result ≡ treaty_outside t.now }
 {
-    let kind = t.kind;
-    match kind {
+    match t.kind {
         treaty::QUOTA_SHARE => quota_outside(t),
         treaty::SURPLUS => surplus_outside(t),
         _ => 1,
@@ -74,43 +68,34 @@ pub fn treaty_outside(t: Treaty) -> u64
 }
 
 // 1 where a rate in use is outside its range, or another place does not hold 0; else 0. Most places hold 0.
-fn rates_outside(rates: [u64; RATES], used: u64) -> u64
-    ensures { (result ≡ rates_outside used rates) × (result ≤ 1) }
+fn rates_outside(rates: &[u64; RATES], used: u64) -> u64
+    ensures { (result ≡ rates_outside used rates.now) × (result ≤ 1) }
 {
-    let mut i: usize = 0;
-    while i < RATES {
-        let rate = rates[i];
-        i += 1;
-        if rate != 0 {
-            if used < i as u64 {
-                return 1;
-            }
-            if RATE < rate {
-                return 1;
-            }
+    for (i, rate) in rates.iter().enumerate() {
+        if *rate != 0 && (used <= i as u64 || RATE < *rate) {
+            return 1;
         }
     }
     0
 }
 
 // How many of a layer's numbers are outside their range; its rates count for one.
-pub fn terms_outside(l: Terms) -> u64
-    ensures { result ≡ terms_outside l }
+pub fn terms_outside(l: &Terms) -> u64
+    ensures { result ≡ terms_outside l.now }
 {
-    let rates = l.rates;
     outside(0, AMOUNT, l.attachment)
         + outside(1, AMOUNT, l.limit)
         + outside(0, DEDUCTIBLE, l.deductible)
         + outside(0, REINSTATEMENTS, l.reinstatements)
         + outside(0, PREMIUM, l.premium)
         + outside(0, arith::WHOLE, l.placed)
-        + rates_outside(rates, l.reinstatements)
+        + rates_outside(&l.rates, l.reinstatements)
         + outside(0, TIME, l.time)
 }
 
 // How many numbers of a treaty's place are not 0.
-pub fn treaty_not_zero(t: Treaty) -> u64
-    ensures { result ≡ treaty_not_zero t }
+pub fn treaty_not_zero(t: &Treaty) -> u64
+    ensures { result ≡ treaty_not_zero t.now }
 {
     outside(0, 0, t.kind)
         + outside(0, 0, t.number)
@@ -122,16 +107,15 @@ pub fn treaty_not_zero(t: Treaty) -> u64
 }
 
 // How many numbers of a layer's place are not 0; its rates count for one.
-pub fn terms_not_zero(l: Terms) -> u64
-    ensures { result ≡ terms_not_zero l }
+pub fn terms_not_zero(l: &Terms) -> u64
+    ensures { result ≡ terms_not_zero l.now }
 {
-    let rates = l.rates;
     outside(0, 0, l.attachment)
         + outside(0, 0, l.limit)
         + outside(0, 0, l.deductible)
         + outside(0, 0, l.reinstatements)
         + outside(0, 0, l.premium)
         + outside(0, 0, l.placed)
-        + rates_outside(rates, 0)
+        + rates_outside(&l.rates, 0)
         + outside(0, 0, l.time)
 }

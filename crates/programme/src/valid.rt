@@ -1,133 +1,109 @@
 // Whether some table text reads to a programme: a test on its numbers.
-ghost use Rattle.std.specs.Prelude.{◌≡◌, ◌≤◌, take, drop};
+ghost use Rattle.std.specs.Prelude.{Bool, ◌&&◌, ℕ, ◌≡◌, ◌≤◌, take};
 ghost use Rattle.lists.specs.Chains.{chained, every};
 ghost use Rattle.programme.specs.Rules.{treaty_number, band_end};
 ghost use Rattle.programme.specs.Valid.{treaty_passes, layer_passes, treaty_unused, terms_unused};
-ghost use Rattle.programme.specs.Valid.{valid_treaties, valid_layers, valid};
+ghost use Rattle.programme.specs.Valid.{figure_if, eight_places, valid};
 
-use crate::contract::{Layers, PLACES, Programme, Treaties};
+use crate::contract::{PLACES, Programme};
 use crate::range;
 use layer::terms::Terms;
 use treaty::Treaty;
 
-// The refusal of a programme that no table text reads to.
-pub const NOT_A_PROGRAMME: u64 = 6;
+// What a place of a programme holds: a treaty, or a layer of a tier. It passes after the figure of the place before it,
+// and its own figure is a treaty's number or the end of a layer's band.
+trait Place {
+    ghost passes: { ℕ → Self → Bool };
 
-// Whether each treaty is in range and its number above the one before.
-fn treaties_pass(places: [Treaty; PLACES], count: usize) -> bool
-    requires { count ≤ 8 }
-    ensures { result ≡ chained treaty_passes treaty_number 0 (take count places) }
+    ghost figure: { Self → ℕ };
+
+    ghost unused: { Self → Bool };
+
+    // The figure of a place that passes after the figure `before`.
+    fn figure_after(&self, before: u64) -> Option<u64>
+        ensures { result ≡ figure_if (passes before self.now) (figure self.now) };
+
+    // Whether it holds nothing but 0.
+    fn is_unused(&self) -> bool
+        ensures { result ≡ unused self.now };
+}
+
+impl Place for Treaty {
+    ghost passes = { treaty_passes };
+
+    ghost figure = { treaty_number };
+
+    ghost unused = { treaty_unused };
+
+    // In range, and its number above the one before: the rules of `treaty_fault` (rule), which tells the broken one.
+    fn figure_after(&self, before: u64) -> Option<u64> {
+        if 0 < range::treaty_outside(self) || self.number <= before {
+            return None;
+        }
+        Some(self.number)
+    }
+
+    fn is_unused(&self) -> bool {
+        range::treaty_not_zero(self) == 0
+    }
+}
+
+impl Place for Terms {
+    ghost passes = { layer_passes };
+
+    ghost figure = { band_end };
+
+    ghost unused = { terms_unused };
+
+    // In range, and attaching at or above the end of the band before: the rules of `layer_fault` (rule) likewise.
+    fn figure_after(&self, before: u64) -> Option<u64> {
+        if 0 < range::terms_outside(self) || self.attachment < before {
+            return None;
+        }
+        Some(self.attachment + self.limit)
+    }
+
+    fn is_unused(&self) -> bool {
+        range::terms_not_zero(self) == 0
+    }
+}
+
+// Whether each place passes after the one before it.
+fn all_pass<P: Place>(places: &[P]) -> bool
+    ensures { result ≡ chained P.passes P.figure 0 places.now }
 {
     let mut before: u64 = 0;
-    let mut i: usize = 0;
-    while i < count {
-        let treaty = places[i];
-        if 0 < range::treaty_outside(treaty) {
+    for place in places {
+        let Some(figure) = place.figure_after(before) else {
             return false;
-        }
-        if treaty.number <= before {
-            return false;
-        }
-        before = treaty.number;
-        i += 1;
+        };
+        before = figure;
     }
     true
 }
 
-// Whether the places from one on hold nothing but 0.
-fn treaties_unused(places: [Treaty; PLACES], from: usize) -> bool
-    requires { from ≤ 8 }
-    ensures { result ≡ every treaty_unused (drop from places) }
+// Whether none of them is used.
+fn all_unused<P: Place>(places: &[P]) -> bool
+    ensures { result ≡ every P.unused places.now }
 {
-    let mut i = from;
-    while i < PLACES {
-        let treaty = places[i];
-        if 0 < range::treaty_not_zero(treaty) {
-            return false;
-        }
-        i += 1;
-    }
-    true
+    places.iter().all(|place| place.is_unused())
 }
 
-// Whether the treaties of a programme keep to the rules.
-fn treaties(t: Treaties) -> bool
-    ensures { result ≡ valid_treaties t }
+// Whether there are `count` places, the first ones, that keep to the rules, and the others are unused.
+fn keep_to_rules<P: Place>(places: &[P; PLACES], count: usize) -> bool
+    ensures { result ≡ (eight_places P.unused count places.now && chained P.passes P.figure 0 (take count places.now)) }
 {
-    let count = t.count;
-    if PLACES < count {
+    let Some((used, others)) = places.split_at_checked(count) else {
         return false;
-    }
-    let places = t.places;
-    if treaties_unused(places, count) {
-        return treaties_pass(places, count);
-    }
-    false
-}
-
-// Whether each layer is in range and attaches at or above the end of the band before.
-fn layers_pass(places: [Terms; PLACES], count: usize) -> bool
-    requires { count ≤ 8 }
-    ensures { result ≡ chained layer_passes band_end 0 (take count places) }
-{
-    let mut before: u64 = 0;
-    let mut i: usize = 0;
-    while i < count {
-        let terms = places[i];
-        if 0 < range::terms_outside(terms) {
-            return false;
-        }
-        if terms.attachment < before {
-            return false;
-        }
-        before = terms.attachment + terms.limit;
-        i += 1;
-    }
-    true
-}
-
-// The same of a tier's places.
-fn layers_unused(places: [Terms; PLACES], from: usize) -> bool
-    requires { from ≤ 8 }
-    ensures { result ≡ every terms_unused (drop from places) }
-{
-    let mut i = from;
-    while i < PLACES {
-        let terms = places[i];
-        if 0 < range::terms_not_zero(terms) {
-            return false;
-        }
-        i += 1;
-    }
-    true
-}
-
-// Whether the layers of a tier keep to the rules.
-fn layers(l: Layers) -> bool
-    ensures { result ≡ valid_layers l }
-{
-    let count = l.count;
-    if PLACES < count {
-        return false;
-    }
-    let places = l.places;
-    if layers_unused(places, count) {
-        return layers_pass(places, count);
-    }
-    false
+    };
+    all_unused(others) && all_pass(used)
 }
 
 // Whether a programme is valid.
-pub fn holds(programme: Programme) -> bool
-    ensures { result ≡ valid programme }
+pub fn holds(programme: &Programme) -> bool
+    ensures { result ≡ valid programme.now }
 {
-    let t = programme.treaties;
-    let r = programme.risk;
-    let c = programme.cat;
-    if treaties(t) {
-        if layers(r) {
-            return layers(c);
-        }
-    }
-    false
+    keep_to_rules(&programme.treaties.places, programme.treaties.count)
+        && keep_to_rules(&programme.risk.places, programme.risk.count)
+        && keep_to_rules(&programme.cat.places, programme.cat.count)
 }

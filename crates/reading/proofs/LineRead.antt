@@ -4,7 +4,7 @@
 use mathlib.Core.Path.{◌≡◌, refl, sym, ap, ◌∙◌}
 use mathlib.Core.Bool.{Bool, true, false, cond}
 use mathlib.Core.List.{List, [], ◌∷◌, ◌++◌, append-nil, append_assoc}
-use mathlib.Core.Option.{none, some}
+use Rattle.std.specs.Prelude.{Option, None, Some}
 use Prim.Native.Nat.{ℕ, zero, suc, ◌+◌, ◌-◌, ◌*◌, ◌^◌, ◌≤◌, ◌<◌}
 use native.Mathlib.Omega.{arith}
 use borrow.Author.Tests.{ne_eqb}
@@ -12,7 +12,7 @@ use lib.Dec.{eqb}
 use mir.Syntax.{w64}
 use mir.Val.{Fits}
 use lib.ListN.{length, take, drop, set, length-append, length-drop, drop_of_length-le}
-use lib.Seq.{sets, length-sets, set_comm, drop-cons, drop-drop, drop_at, take_all}
+use lib.Seq.{sets, set_comm, drop-cons, drop-drop, drop_at, take_all}
 use Rattle.lists.proofs.Cases.{by_test}
 use Rattle.lists.proofs.Sums.{sum-append}
 use Rattle.text.specs.Begin.{begins, Stands}
@@ -27,10 +27,6 @@ use Rattle.programme.specs.Ranges.{outside}
 use Rattle.events.specs.Event.{Event, event_of, forms_of}
 use Rattle.events.specs.Rules.{event_outside, lacking, lowest_fault, event_fault}
 use Rattle.events.specs.Form.{head_of, loss_at}
-use Rattle.events.specs.declared.form.Head.{Head}
-use Rattle.events.specs.declared.form.Head.TheVariants.{Day, NoEvent}
-use Rattle.events.specs.declared.form.LossForm.{LossForm}
-use Rattle.events.specs.declared.form.LossForm.TheVariants as form
 use Rattle.events.specs.Read.{EventsRead, turned_down_at, events, event_before, unless_fault, read_from}
 use Rattle.events.proofs.InLine.{head_in_line, loss_in_line, clean_from, space_left, no-loss-left}
 use Rattle.events.proofs.InLine.{bracket_alone, bracket_not_alone, no_ending}
@@ -39,7 +35,7 @@ use Rattle.events.proofs.LossForms.{no-event, no-loss-form, broken_off, closed_o
 use Rattle.losses.specs.Treaties.{treaties_from}
 use Rattle.losses.specs.Event.{loss_numbers, events_numbers}
 use Rattle.losses.proofs.EventNumbers.{numbers-length, events-append}
-use Rattle.reading.specs.Examine.{idle_by, idle_in, CanRead, refused_read, ReadIs}
+use Rattle.reading.specs.Examine.{idle_by, idle_in, CanRead, Kept}
 use Rattle.reading.proofs.LossRead.{Listed, none-listed, left_of_line, count_small, next-is}
 
 -- events before what the lines after them give
@@ -95,31 +91,29 @@ event-put {k} {k'} {k''} {at} d c vs p q =
     }
 
 -- the answer for a text
-abbrev answer_of : (register : List ℕ) (last : ℕ) (text : List ℕ) → EventsRead
+abbrev answer_of : (register : List Treaty) (last : ℕ) (text : List ℕ) → EventsRead
 answer_of register last text = read_from (treaties_from register) 1 last (forms_of text)
 
 -- Before line `number + 1`, which begins at the place `at`: the events so far are kept in k, which was k₀ at first, up
 -- to the place `end`; `idle` of them are idle, and `before` is the day of the last.
-pub record Going (register text : List ℕ) (last : ℕ) (k₀ k : List ℕ) (before end idle number fault at : ℕ) : Type 0
-  where
-    pub can : CanRead text register
-    pub es : List Event
-    pub none_yet : fault ≡ 0
-    pub within : at ≤ length text
-    pub counted : number ≡ length es
-    pub early : number ≤ at
-    pub short : 13 * end ≤ 3 * at
-    pub kept : Put k₀ 0 (events_numbers es) k end
-    pub idles : idle ≡ idle_in es
-    pub rest : answer_of register last text
-        ≡ events_before es (read_from (treaties_from register) (number + 1) before (forms_of (drop at text)))
+pub record Going (register : List Treaty) (text : List ℕ) (last : ℕ) (k₀ k : List ℕ) (before end idle number at : ℕ)
+    : Type 0 where
+  pub can : CanRead text register
+  pub es : List Event
+  pub within : at ≤ length text
+  pub counted : number ≡ length es
+  pub early : number ≤ at
+  pub short : 13 * end ≤ 3 * at
+  pub kept : Put k₀ 0 (events_numbers es) k end
+  pub idles : idle ≡ idle_in es
+  pub rest : answer_of register last text
+      ≡ events_before es (read_from (treaties_from register) (number + 1) before (forms_of (drop at text)))
 
-pub going-begins : (register text : List ℕ) (last : ℕ) (k : List ℕ) → CanRead text register
-    → Going register text last k k last 0 0 0 0 0
+pub going-begins : (register : List Treaty) (text : List ℕ) (last : ℕ) (k : List ℕ) → CanRead text register
+    → Going register text last k k last 0 0 0 0
 going-begins register text last k c = record {
   can = c;
   es = [];
-  none_yet = refl;
   within = omega arith;
   counted = refl;
   early = omega arith;
@@ -133,46 +127,12 @@ refuses : (n w : ℕ) (e : Event) (r : EventsRead) → (n ≡ 0 → ⊥) → unl
 refuses zero w e r h = absurd (h refl)
 refuses (suc n) w e r h = refl
 
--- a line was at fault
-pub record Stopped (register text : List ℕ) (last number fault : ℕ) : Type 0 where
-  pub told : answer_of register last text ≡ turned_down_at fault number
-  pub is-fault : fault ≡ 0 → ⊥
-
--- After the last line that was examined: k holds what was kept. All lines are read where there is no fault.
-pub record Ended (register text : List ℕ) (last : ℕ) (k₀ k : List ℕ) (end idle number fault : ℕ) : Type 0 where
-  pub same : length k ≡ length k₀
-  pub stops : (fault ≡ 0 → ⊥) → ReadIs text k₀ k (refused_read fault number) (answer_of register last text)
-  pub idles : fault ≡ 0 → idle ≤ number
-  pub reads : fault ≡ 0
-      → ReadIs text k₀ k (record { refusal = 0; line = 0; end = end; idle = idle; entered = number - idle })
-      (answer_of register last text)
-
--- the same by other names
-pub ended_as : {register text : List ℕ} {last : ℕ} {k₀ k k' : List ℕ} {end idle number number' fault fault' : ℕ}
-    → k' ≡ k → number' ≡ number → fault' ≡ fault → Ended register text last k₀ k end idle number fault
-    → Ended register text last k₀ k' end idle number' fault'
-ended_as a b c e = rw (a, b, c) e
-
--- one was at fault
-pub ended_at : {register text : List ℕ} {last number fault : ℕ} → Stopped register text last number fault
-    → {k₀ k : List ℕ} → length k ≡ length k₀ → (end idle : ℕ)
-    → Ended register text last k₀ k end idle number fault
-ended_at s e end idle = record {
-  same = e;
-  stops = λ f. rw s.told (refl, s.is-fault);
-  idles = λ z. absurd (s.is-fault z);
-  reads = λ z. absurd (s.is-fault z);
-}
-
-module _ {register text : List ℕ} {last : ℕ} {k₀ k : List ℕ} {before end idle number fault at : ℕ}
-    (g : Going register text last k₀ k before end idle number fault at) where
+module _ {register : List Treaty} {text : List ℕ} {last : ℕ} {k₀ k : List ℕ} {before end idle number at : ℕ}
+    (g : Going register text last k₀ k before end idle number at) where
   abbrev ts : List Treaty
   ts = treaties_from register
 
-  pub going-same : length k ≡ length k₀
-  going-same = rw g.kept.bytes (length-sets k₀ 0 (events_numbers g.es))
-
-  idle-within : idle ≤ number
+  pub idle-within : idle ≤ number
   idle-within = omega (arith, g.idles, g.counted, idle-le g.es)
 
   pub idle-fits : (m n : ℕ) → m ≡ cond (eqb n 0) 1 0 → Fits w64 (idle + m)
@@ -183,34 +143,21 @@ module _ {register text : List ℕ} {last : ℕ} {k₀ k : List ℕ} {before end
       one_at_most false = omega arith
 
   -- no line is left
-  all_read : length text ≤ at
-      → ReadIs text k₀ k (record { refusal = 0; line = 0; end = end; idle = idle; entered = number - idle })
-      (answer_of register last text)
+  pub all_read : length text ≤ at
+      → Kept text k₀ k (record { end = end; idle = idle; entered = number - idle }) (answer_of register last text)
   unfolding read_from lines_of
   all_read h =
       let none_left : read_from ts (number + 1) before (forms_of (drop at text)) ≡ events [] =
       rw (drop_of_length-le text {i = at} h) in
-      let whole = g.rest ∙ ap (events_before g.es) none_left ∙ before-events g.es [] in
       let size : end ≡ length (events_numbers g.es) = omega (arith, g.kept.place) in
-      rw (whole, append-nil g.es) (
-        λ i. record {
-          refusal = 0;
-          line = 0;
-          end = size i;
-          idle = g.idles i;
-          entered = g.counted i - g.idles i;
-        },
-        rw size at g.kept,
-        omega (arith, g.short, g.within, size),
-      )
-
-  pub ended-all : length text ≤ at → Ended register text last k₀ k end idle number fault
-  ended-all h = record {
-    same = going-same;
-    stops = λ f. absurd (f g.none_yet);
-    idles = λ z. idle-within;
-    reads = λ z. all_read h;
-  }
+      record {
+        es = g.es;
+        told = g.rest ∙ ap (events_before g.es) none_left ∙ before-events g.es [] ∙ ap events (append-nil g.es);
+        counted =
+            λ i. record { end = size i; idle = g.idles i; entered = g.counted i - g.idles i };
+        kept = rw size at g.kept;
+        short = omega (arith, g.short, g.within, size);
+      }
 
   module _ (more : at < length text) where
     -- what is left of the text, as the code takes it
@@ -231,30 +178,30 @@ module _ {register text : List ℕ} {last : ℕ} {k₀ k : List ℕ} {before end
         → forms_of (drop at text) ≡ event_of l ∷ forms_of r
     forms_of_line l r e z = rw (all_left ∙ e, line_and_rest l r z)
 
-    refused-here : (n : ℕ) → (n ≡ 0 → ⊥)
-        → read_from ts (number + 1) before (forms_of (drop at text)) ≡ turned_down_at n (number + 1)
-        → Stopped register text last (number + 1) n
-    refused-here n z here = record {
-      told = g.rest ∙ ap (events_before g.es) here ∙ before-refused g.es n (number + 1);
-      is-fault = z;
-    }
+    -- the line is at fault
+    abbrev pub Stopped : ℕ → Type 0
+    Stopped n = answer_of register last text ≡ turned_down_at n (number + 1)
+
+    refused-here : (n : ℕ)
+        → read_from ts (number + 1) before (forms_of (drop at text)) ≡ turned_down_at n (number + 1) → Stopped n
+    refused-here n here = g.rest ∙ ap (events_before g.es) here ∙ before-refused g.es n (number + 1)
 
     -- a first line that is no event form, or bytes without a line feed
-    no-form : ((l r : List ℕ) → s ≡ l ++ (10 ∷ r) → NoFeed l → event_of l ≡ none)
-        → Stopped register text last (number + 1) 10
+    no-form : ((l r : List ℕ) → s ≡ l ++ (10 ∷ r) → NoFeed l → event_of l ≡ None)
+        → Stopped 10
     unfolding read_from
     no-form f =
-        refused-here 10 (λ z. omega (arith, z))
+        refused-here 10
         (by-feed s
         (λ l r e z. rw (forms_of_line l r e z, f l r e z))
         (λ z. rw (drop-cons text at 0 more, unended _ _ (rw (sym all_left, drop-cons text at 0 more) at z))))
 
     -- it does not begin as one
-    pub no_head : (u : Head) → u ≡ head_of s → u ≡ NoEvent → Stopped register text last (number + 1) 10
+    pub no_head : (u : Option (ℕ × ℕ)) → u ≡ head_of s → u ≡ None → Stopped 10
     no_head u w y = no-form (λ l r e z. no-event l u (w ∙ ap head_of e ∙ head_in_line l r z) y)
 
     -- it does
-    pub first-listed : (u : Head) (day first out from : ℕ) → u ≡ head_of s → u ≡ Day day first
+    pub first-listed : (u : Option (ℕ × ℕ)) (day first out from : ℕ) → u ≡ head_of s → u ≡ Some (day, first)
         → out ≡ outside 1 366 day → out ≤ 1 → from ≡ end + 2 → Listed ts s day k k (end + 2) first 0 out 0 from
     first-listed u day first out from w y o i q =
         rw q (none-listed ts s k (end + 2) u day first out w y o i rest-short)
@@ -263,8 +210,8 @@ module _ {register text : List ℕ} {last : ℕ} {k₀ k : List ℕ} {before end
     module _ {day : ℕ} {k' : List ℕ} {place count out lacks next : ℕ}
         (c : Listed ts s day k k' (end + 2) place count out lacks next) where
       -- after a space that no loss form begins with
-      pub no-loss : (b : Bool) → Stands s place 32 b → b ≡ true → (f : LossForm) → f ≡ loss_at s place
-          → f ≡ form.NoLoss → Stopped register text last (number + 1) 10
+      pub no-loss : (b : Bool) → Stands s place 32 b → b ≡ true → (f : Option (Loss × ℕ)) → f ≡ loss_at s place
+          → f ≡ None → Stopped 10
       no-loss b space is f w y =
           no-form (λ l r e z.
           let a = c.ahead l r e z in
@@ -290,7 +237,7 @@ module _ {register text : List ℕ} {last : ℕ} {k₀ k : List ℕ} {before end
         event-fault = rw (c.outsides, c.counted, c.lacked)
 
         -- not closed: no event form
-        not_closed : closed ≡ false → (l r : List ℕ) → s ≡ l ++ (10 ∷ r) → NoFeed l → event_of l ≡ none
+        not_closed : closed ≡ false → (l r : List ℕ) → s ≡ l ++ (10 ∷ r) → NoFeed l → event_of l ≡ None
         not_closed y l r e z =
             let a = c.ahead l r e z in
             let left = left_of_line s l r place e a.within in
@@ -300,7 +247,7 @@ module _ {register text : List ℕ} {last : ℕ} {k₀ k : List ℕ} {before end
 
         -- closed: the event, and the line ends after the bracket
         is_closed : closed ≡ true → (l r : List ℕ) → s ≡ l ++ (10 ∷ r) → NoFeed l
-            → (event_of l ≡ some event) × (length l ≡ place + 1)
+            → (event_of l ≡ Some event) × (length l ≡ place + 1)
         is_closed y l r e z =
             let a = c.ahead l r e z in
             let left = left_of_line s l r place e a.within in
@@ -313,12 +260,12 @@ module _ {register text : List ℕ} {last : ℕ} {k₀ k : List ℕ} {before end
             let no : true ≡ false = sym y ∙ q ∙ no_ending (drop place s) (clean_from place s z) in
             let w : ◌≡◌ {A = ℕ} 0 1 = cc in omega arith
 
-        pub faulty : (n ≡ 0 → ⊥) → Stopped register text last (number + 1) n
+        pub faulty : (n ≡ 0 → ⊥) → Stopped n
         unfolding read_from
         faulty z =
             by_test closed
             (λ y.
-            refused-here n z
+            refused-here n
             (by-feed s
             (λ l r e clean.
             let own : n ≡ lowest_fault out count day before lacks = f ∙ rw (← y) in
@@ -378,11 +325,10 @@ module _ {register text : List ℕ} {last : ℕ} {k₀ k : List ℕ} {before end
           -- one event more is kept
           pub goes_on : (k'' : List ℕ) (past more-idle : ℕ) → Put k' end (day ∷ count ∷ []) k'' past
               → more-idle ≡ cond (eqb count 0) 1 0
-              → Going register text last k₀ k'' day next (idle + more-idle) (number + 1) n (at + place + 2)
+              → Going register text last k₀ k'' day next (idle + more-idle) (number + 1) (at + place + 2)
           goes_on k'' past more-idle put i = record {
             can = g.can;
             es = g.es ++ (event ∷ []);
-            none_yet = z;
             within = inside;
             counted = omega (arith, g.counted, length-append g.es (event ∷ []));
             early = omega (arith, g.early);

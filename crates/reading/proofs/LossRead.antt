@@ -2,11 +2,13 @@
 -- ahead gives the whole event.
 -- Assumes nothing.
 use mathlib.Core.Path.{◌≡◌, refl, sym, ap, ◌∙◌}
-use mathlib.Core.Bool.{Bool, true, cond}
+use mathlib.Core.Bool.{Bool, true, false, cond}
 use mathlib.Core.List.{List, [], ◌∷◌, ◌++◌}
 use Prim.Native.Nat.{ℕ, ◌+◌, ◌-◌, ◌*◌, ◌≤◌, ◌<◌}
+use Rattle.std.specs.Prelude.{Option, Some}
 use native.Mathlib.Omega.{arith}
 use lib.ListN.{length, drop, length-append}
+use mir.Val.{bool_byte}
 use lib.Seq.{drop-append-le, length-sets}
 use Rattle.lists.specs.Sums.{sum_of}
 use Rattle.lists.proofs.Sums.{sum-append}
@@ -17,10 +19,6 @@ use Rattle.text.proofs.Puts.{put-none, put-append}
 use Rattle.treaty.specs.declared.Treaty.{Treaty}
 use Rattle.treaty.specs.declared.Loss.{Loss}
 use Rattle.programme.specs.Ranges.{outside}
-use Rattle.events.specs.declared.form.Head.{Head}
-use Rattle.events.specs.declared.form.Head.TheVariants.{Day}
-use Rattle.events.specs.declared.form.LossForm.{LossForm}
-use Rattle.events.specs.declared.form.LossForm.TheVariants as form
 use Rattle.events.specs.Rules.{loss_outside, in_table}
 use Rattle.events.specs.Form.{head_of, loss_at}
 use Rattle.events.proofs.InLine.{head_in_line, loss_in_line, clean_from, space_left}
@@ -36,6 +34,10 @@ left_of_line s l r at e h = ap (drop at) e ∙ drop-append-le at l (10 ∷ r) h
 -- 1 for a loss whose treaty the table lacks
 abbrev pub lack_by : List Treaty → Loss → ℕ
 lack_by ts x = cond (in_table ts x.treaty) 0 1
+
+lack_byte : (t u : Bool) → u ≡ cond t false true → (bool_byte u ≡ cond t 0 1) × (bool_byte u ≤ 1)
+lack_byte true u e = rw e (refl, omega arith)
+lack_byte false u e = rw e (refl, omega arith)
 
 -- The losses xs were read up to `place` of the text s, whose first line has the day d: `count` of them, `out` of its
 -- numbers so far outside their range, `lacks` of the losses with a treaty that the table lacks. They are kept from the
@@ -55,8 +57,8 @@ pub record Listed (ts : List Treaty) (s : List ℕ) (d : ℕ) (k₀ k : List ℕ
   pub short : length s ≤ 65536
 
 -- before the first loss form
-pub none-listed : (ts : List Treaty) (s k : List ℕ) (from : ℕ) (u : Head) (d first out : ℕ) → u ≡ head_of s
-    → u ≡ Day d first → out ≡ outside 1 366 d → out ≤ 1 → length s ≤ 65536
+pub none-listed : (ts : List Treaty) (s k : List ℕ) (from : ℕ) (u : Option (ℕ × ℕ)) (d first out : ℕ) → u ≡ head_of s
+    → u ≡ Some (d, first) → out ≡ outside 1 366 d → out ≤ 1 → length s ≤ 65536
     → Listed ts s d k k from first 0 out 0 from
 none-listed ts s k from u d first out q y o l h =
     let whole = none_ahead s u q d first y in
@@ -86,8 +88,8 @@ module _ {ts : List Treaty} {s : List ℕ} {d : ℕ} {k₀ k : List ℕ} {from p
   next-is = omega (arith, g.kept.place, numbers-length g.xs, g.counted)
 
   -- one loss more
-  module _ (b : Bool) (space : Stands s place 32 b) (is : b ≡ true) (f : LossForm) (q : f ≡ loss_at s place)
-      (x : Loss) (after : ℕ) (y : f ≡ form.Loss x after) where
+  module _ (b : Bool) (space : Stands s place 32 b) (is : b ≡ true) (f : Option (Loss × ℕ)) (q : f ≡ loss_at s place)
+      (x : Loss) (after : ℕ) (y : f ≡ Some (x, after)) where
     places : (place + 13 ≤ after) × (after ≤ length s)
     places = loss-place s place g.within f q x after y
 
@@ -103,10 +105,11 @@ module _ {ts : List Treaty} {s : List ℕ} {d : ℕ} {k₀ k : List ℕ} {from p
         (q ∙ ap (λ (t : List ℕ). loss_at t place) e ∙ loss_in_line l r place (clean_from place l z) a.within) x after
         y
 
-    pub one-listed : (o m end : ℕ) (k' : List ℕ) → o ≡ loss_outside x → o ≤ 3 → m ≡ lack_by ts x → m ≤ 1
+    pub one-listed : (o end : ℕ) (u : Bool) (k' : List ℕ) → o ≡ loss_outside x → o ≤ 3
+        → u ≡ cond (in_table ts x.treaty) false true
         → Put k next (x.treaty ∷ x.maximum ∷ x.amount ∷ []) k' end
-        → Listed ts s d k₀ k' from after (count + 1) (out + o) (lacks + m) end
-    one-listed o m end k' a b e i p = record {
+        → Listed ts s d k₀ k' from after (count + 1) (out + o) (lacks + bool_byte u) end
+    one-listed o end u k' a b e p = let l = (lack_byte (in_table ts x.treaty) u e).0 in let i = (lack_byte (in_table ts x.treaty) u e).1 in record {
       xs = g.xs ++ (x ∷ []);
       within = places.1;
       begun = omega (arith, g.begun, places.0, length-append g.xs (x ∷ []));
@@ -114,8 +117,8 @@ module _ {ts : List Treaty} {s : List ℕ} {d : ℕ} {k₀ k : List ℕ} {from p
       counted = omega (arith, g.counted, length-append g.xs (x ∷ []));
       outsides = omega (arith, g.outsides, a, sum-append loss_outside g.xs (x ∷ []));
       few = omega (arith, g.few);
-      lacked = omega (arith, g.lacked, e, sum-append (lack_by ts) g.xs (x ∷ []));
-      few_lacks = omega (arith, g.few_lacks);
+      lacked = omega (arith, g.lacked, l, sum-append (lack_by ts) g.xs (x ∷ []));
+      few_lacks = omega (arith, g.few_lacks, i);
       kept = rw (numbers-append g.xs (x ∷ [])) (put-append g.kept p);
       short = g.short;
     }

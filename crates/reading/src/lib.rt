@@ -7,17 +7,15 @@ ghost use Rattle.events.specs.Read.{read_from};
 ghost use Rattle.losses.specs.Treaties.{treaties_from};
 ghost use Rattle.reading.specs.Examine.{CanRead, ReadIs};
 
-use events::form::{Head, LossForm};
 use events::{form, rule};
 use losses::{kept, treaties};
+use refusal::{Refusal, Refused};
 use text::line;
+use treaty::Treaty;
 
-// A refusal and its line, or refusal 0, the place after the events' numbers, how many events are idle, without losses,
-// and how many are not.
+// The place after the events' numbers, how many events are idle, without losses, and how many are not.
 #[derive(Clone, Copy)]
 pub struct Examined {
-    pub refusal: u64,
-    pub line: u64,
     pub end: usize,
     pub idle: usize,
     pub entered: usize,
@@ -27,15 +25,17 @@ pub struct Examined {
 fn idle_by(count: usize) -> usize
     ensures { result ≡ cond (eqb count 0) 1 0 }
 {
-    if count == 0 {
-        return 1;
-    }
-    0
+    usize::from(count == 0)
 }
 
 // The first line at fault, where `last` is the day before the first line, or the events of all lines: the day of each
 // and how many losses it has, then three numbers for each loss (T, E, g).
-pub fn read(text: &[u8], register: &[u64], last: u64, places: &mut [u64]) -> Examined
+pub fn read(
+    text: &[u8],
+    register: &[Treaty],
+    last: u64,
+    places: &mut [u64],
+) -> Result<Examined, Refused>
     requires { CanRead text.now register.now }
     ensures { ReadIs text.now places.old places.new result
         (read_from (treaties_from register.now) 1 last (forms_of text.now)) }
@@ -44,56 +44,44 @@ pub fn read(text: &[u8], register: &[u64], last: u64, places: &mut [u64]) -> Exa
     let mut end: usize = 0;
     let mut idle: usize = 0;
     let mut number: u64 = 0;
-    let mut fault: u64 = 0;
     let mut at: usize = 0;
-    'lines: while at < text.len() {
+    let refusal = 'lines: loop {
+        if text.len() <= at {
+            return Ok(Examined {
+                end,
+                idle,
+                entered: number as usize - idle,
+            });
+        }
         let rest = &text[at..];
         number += 1;
-        // Until its form is read whole, the line is none.
-        fault = rule::NOT_AN_EVENT_FORM;
-        let Head::Day(day, first) = form::read_head(rest) else {
-            break 'lines;
+        let Some((day, first)) = form::read_head(rest) else {
+            break 'lines Refusal::NotAnEventForm;
         };
         let mut place = first;
         let mut count: usize = 0;
         let mut outside = rule::day_outside(day);
         let mut lacks: u64 = 0;
         let mut next = kept::losses_from(end);
-        while line::stands(rest, place, b' ') {
-            let LossForm::Loss(loss, after) = form::read_loss(rest, place) else {
-                break 'lines;
+        'losses: while line::stands(rest, place, b' ') {
+            let Some((loss, after)) = form::read_loss(rest, place) else {
+                break 'lines Refusal::NotAnEventForm;
             };
             outside += rule::loss_outside(loss);
-            lacks += treaties::lacks(register, loss.treaty);
+            lacks += treaties::lacks(register, loss.treaty) as u64;
             next = kept::keep_loss(places, next, loss);
             count += 1;
             place = after;
         }
         let closed = form::closes(rest, place);
-        fault = rule::fault(closed, outside, count, day, before, lacks);
-        if fault != 0 {
-            break 'lines;
+        if let Err(fault) = rule::fault(closed, outside, count, day, before, lacks) {
+            break 'lines fault;
         }
         kept::keep_head(places, end, day, count);
         at = at + place + form::ENDING;
         end = next;
         before = day;
         idle += idle_by(count);
-    }
-    if fault != 0 {
-        return Examined {
-            refusal: fault,
-            line: number,
-            end: 0,
-            idle: 0,
-            entered: 0,
-        };
-    }
-    Examined {
-        refusal: 0,
-        line: 0,
-        end,
-        idle,
-        entered: number as usize - idle,
-    }
+    };
+    Err(refusal.at(number))
 }

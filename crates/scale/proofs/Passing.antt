@@ -1,7 +1,7 @@
 -- Document 02, Q-12: what the test of a scale tells of its shares, and how the code makes the test.
 -- Assumes nothing.
 use mathlib.Core.Bool.{true, false}
-use mathlib.Core.Path.{◌≡◌, sym, ◌∙◌}
+use mathlib.Core.Path.{◌≡◌, refl, sym, ◌∙◌}
 use mathlib.Core.List.{List, [], ◌∷◌}
 use Prim.Native.Nat.{ℕ, zero, suc, ◌+◌, ◌-◌, ◌≤◌, ◌<◌}
 use native.Mathlib.Omega.{arith}
@@ -9,8 +9,9 @@ use borrow.Author.Tests.{eqb-true, leb-true, lt-leb, le-leb, ne_eqb}
 use lib.Dec.{eqb, leb}
 use lib.ListN.{length, take, get_or}
 use lib.Seq.{take_all}
+use Rattle.lists.proofs.Each.{each-every}
 use Rattle.lists.proofs.Chains.{both, Chaining, chain-begins, chain_next, chain-stops, chain-ends}
-use Rattle.scale.specs.Scale.{share_on, not_above, never_rising, scale_passes, Fair}
+use Rattle.scale.specs.Scale.{share_on, not_above, never_rising, scale_passes, Fair, none_over}
 
 -- no share is above what stands before the first
 never-up : (n : ℕ) (ss : List ℕ) → never_rising n ss ≡ true → (i : ℕ) → get_or ss i 0 ≤ n
@@ -35,6 +36,14 @@ each-fair n (s ∷ ss) h e =
     let first = leb-true s n b.0 in
     (omega arith, each-fair s ss (omega arith) b.1)
 
+-- shares of which the test finds none above the whole, and the other way round
+pub over-none : (ss : List ℕ) → none_over ss ≡ true → Fair ss
+over-none ss e = each-every _ (λ (s : ℕ). leb s 10000) (λ s. leb-true s 10000) ss e
+
+pub fair-over : (ss : List ℕ) → Fair ss → none_over ss ≡ true
+fair-over [] f = refl
+fair-over (s ∷ ss) f = rw (le-leb s 10000 f.0, fair-over ss f.1)
+
 -- of a scale: 366 shares, of which none is over 10,000 and none above that of an earlier day
 module _ (ss : List ℕ) (e : scale_passes ss ≡ true) where
   tests : (eqb (length ss) 366 ≡ true) × (never_rising 10000 ss ≡ true)
@@ -49,6 +58,9 @@ module _ (ss : List ℕ) (e : scale_passes ss ≡ true) where
 
   pub passes-falls : (c d : ℕ) → c ≤ d → share_on ss d ≤ share_on ss c
   passes-falls c d h = falling 10000 ss passes-never-rising (c - 1) (d - 1) (omega arith)
+
+  pub passes-over : none_over ss ≡ true
+  passes-over = fair-over ss (each-fair 10000 ss (omega arith) passes-never-rising)
 
   pub passes-fair : Fair ss
   passes-fair = each-fair 10000 ss (omega arith) passes-never-rising

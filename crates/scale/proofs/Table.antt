@@ -1,21 +1,13 @@
 -- Document 02, Q-4: the built-in table by its day rule, which is computed once over the table and carried to each day.
 -- Assumes nothing.
 use mathlib.Core.Bool.{true}
-use mathlib.Core.Path.{◌≡◌, refl, sym, ap, ◌∙◌}
-use mathlib.Core.List.{List, map}
+use mathlib.Core.Path.{◌≡◌, refl, ap, ◌∙◌}
+use mathlib.Core.List.{map}
 use Prim.Native.Nat.{ℕ, zero, suc, ◌+◌, ◌-◌, ◌≤◌, ◌<◌}
 use native.Mathlib.Omega.{arith}
-use lib.ListN.{length, get_or, get_or-eq_default}
+use lib.ListN.{length, get_or}
 use Rattle.scale.specs.Scale.{day_share, days_from, time_shares, share_on, scale_passes, Fair}
 use Rattle.scale.proofs.Passing.{passes-falls, passes-fair}
-
--- the share in the place of a day, and none past the last place
-module _ (shares : List ℕ) (d place : ℕ) (e : place ≡ d - 1) where
-  pub share_in : get_or shares place 0 ≡ share_on shares d
-  share_in = ap (λ (n : ℕ). get_or shares n 0) e
-
-  pub share-past : length shares ≤ place → 0 ≡ share_on shares d
-  share-past h = sym (get_or-eq_default shares 0 (omega (arith, e)))
 
 -- 366 entries
 pub shares-length : length time_shares ≡ 366

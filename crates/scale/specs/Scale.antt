@@ -3,7 +3,7 @@
 -- Assumes nothing.
 use Rattle.std.specs.Prelude.{Bool, ◌&&◌, List, [], ◌∷◌, map, ℕ, zero, suc, ◌-◌, ◌*◌, ◌/◌, ◌≤◌, eqb, leb, length, get_or}
 use Rattle.lists.specs.Each.{Each}
-use Rattle.lists.specs.Chains.{chained}
+use Rattle.lists.specs.Chains.{chained, every}
 
 -- "for day D, 10,000 × (366 − D) / 365, rounded down"
 unfoldable pub day_share : ℕ → ℕ
@@ -25,6 +25,10 @@ share_on shares d = get_or shares (d - 1) 0
 -- shares of which none is above the whole
 abbrev pub Fair : List ℕ → Type 0
 Fair shares = Each (λ (s : ℕ). s ≤ 10000) shares
+
+-- the same as a test
+abbrev pub none_over : List ℕ → Bool
+none_over shares = every (λ (s : ℕ). leb s 10000) shares
 
 -- "never rising": a share after the one before it
 abbrev pub not_above : (before s : ℕ) → Bool

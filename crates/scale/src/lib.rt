@@ -10,9 +10,6 @@ pub const DAYS: usize = 366;
 // The whole, in basis points: no share is above it.
 pub const WHOLE: u64 = 10000;
 
-// Shares that no scale text reads to; a scale text that is short, long, out of form or has a day out of order.
-pub const NOT_A_SCALE: u64 = 28;
-
 // The built-in shares, in basis points: of the days 1 to 366, what is left of the year.
 const SHARES: [u64; DAYS] = [
     10000, 9972, 9945, 9917, 9890, 9863, 9835, 9808, 9780, 9753, 9726, 9698, 9671, 9643, 9616,
@@ -40,25 +37,12 @@ const SHARES: [u64; DAYS] = [
     273, 246, 219, 191, 164, 136, 109, 82, 54, 27, 0,
 ];
 
-// The place of a day's share.
-fn place_of(day: u64) -> usize
-    ensures { result ≡ day - 1 }
-{
-    if 0 < day {
-        return (day - 1) as usize;
-    }
-    0
-}
-
 // The share of a day among lent shares; a day that they lack has none.
 pub fn share_on(shares: &[u64], day: u64) -> u64
     ensures { result ≡ share_on shares.now day }
 {
-    let place = place_of(day);
-    if place < shares.len() {
-        return shares[place];
-    }
-    0
+    let place = day.saturating_sub(1) as usize;
+    shares.get(place).copied().unwrap_or(0)
 }
 
 // The built-in shares, of which each is by the rule.
@@ -72,18 +56,15 @@ pub fn built_in() -> [u64; DAYS]
 pub fn passes(shares: &[u64]) -> bool
     ensures { result ≡ scale_passes shares.now }
 {
-    if shares.len() == DAYS {} else {
+    if shares.len() != DAYS {
         return false;
     }
     let mut before = WHOLE;
-    let mut i = 0;
-    while i < shares.len() {
-        let share = shares[i];
-        if before < share {
+    for share in shares {
+        if before < *share {
             return false;
         }
-        before = share;
-        i += 1;
+        before = *share;
     }
     true
 }

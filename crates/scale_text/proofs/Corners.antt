@@ -5,12 +5,14 @@ use mathlib.Core.List.{List, [], ◌∷◌, ◌++◌, map}
 use Prim.Native.Nat.{ℕ}
 use Prim.Native.String.{String}
 use lib.ListN.{replicate}
+use Rattle.std.specs.Prelude.{Ok, Err}
+use Rattle.refusal.specs.declared.Refusal.TheVariants.{ShareOutside}
 use Rattle.text.specs.Bytes.{bytes}
 use Rattle.text.specs.Number.{printed_by, printed, digit_of, read_on, number}
 use Rattle.text.specs.Template.{capital, filled, matched, whole_of, line_numbers}
 use Rattle.text.specs.Lines.{lines_of}
 use Rattle.scale_text.specs.declared.ScaleReading.{ScaleReading}
-use Rattle.scale_text.specs.Read.{day_fault, line_fault, read_from, read_of}
+use Rattle.scale_text.specs.Read.{reading_of, day_fault, line_fault, read_from, read_of}
 use Rattle.scale_text.specs.Days.{scale_text_of}
 
 -- the two answers, typed out: a scale, or a refusal and its line with every share 0
@@ -86,6 +88,9 @@ pub record Corners : Type 0 where
       ≡ refused 29 1 ∷ refused 30 2 ∷ refused 28 1 ∷ []
   -- a text of any length is read: line feeds alone, one more than an events text may have
   pub lengthy : read_of (replicate 65537 10) ≡ refused 28 1
+  -- what is answered of shares, and of a refusal with its line
+  pub of-shares : reading_of (Ok (70 ∷ 50 ∷ [])) ≡ scale (70 ∷ 50 ∷ [])
+  pub of-refusal : reading_of (Err (record { refusal = ShareOutside; number = 4 })) ≡ refused 29 4
   -- the text of a scale
   pub text : map scale_text_of ((10000 ∷ []) ∷ (70 ∷ 50 ∷ 0 ∷ []) ∷ [])
       ≡ bytes "(day 1 10000)\n" ∷ bytes "(day 1 70)\n(day 2 50)\n(day 3 0)\n" ∷ []
@@ -111,5 +116,7 @@ corners = record {
   last-rising = refl;
   first = refl;
   lengthy = refl;
+  of-shares = refl;
+  of-refusal = refl;
   text = refl;
 }

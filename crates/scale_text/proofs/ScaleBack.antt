@@ -4,7 +4,7 @@
 use mathlib.Core.Path.{◌≡◌, refl, sym, ap, ◌∙◌}
 use mathlib.Core.Bool.{true}
 use mathlib.Core.List.{List, [], ◌∷◌, ◌++◌, map, append_assoc, append-nil}
-use mathlib.Core.Option.{Option, none, some}
+use Rattle.std.specs.Prelude.{Option, None, Some}
 use Prim.Native.Nat.{ℕ, zero, suc, ◌+◌, ◌≤◌}
 use native.Mathlib.Numerals.{add-one}
 use native.Mathlib.Omega.{arith}
@@ -28,18 +28,18 @@ use Rattle.scale_text.specs.Days.{day_lines, scale_text_of}
 use Rattle.scale_text.proofs.LinePass.{fine, short_of_days}
 
 -- the line of a day is read back
-day-back : (d s : ℕ) → d ≤ 366 → s ≤ 10000 → line_numbers day_text (filled day_text (d ∷ s ∷ []) []) ≡ some (d ∷ s ∷ [])
+day-back : (d s : ℕ) → d ≤ 366 → s ≤ 10000 → line_numbers day_text (filled day_text (d ∷ s ∷ []) []) ≡ Some (d ∷ s ∷ [])
 unfolding separated parted digit_of capital holes
 day-back d s h l = line-printed day_text (d ∷ s ∷ []) refl refl (omega arith, (omega arith, tt))
 
 -- and has no fault, where the share is not above that of the day before
-day-fine : (d before s : ℕ) → d ≤ 366 → s ≤ 10000 → s ≤ before → line_fault d before (some (d ∷ s ∷ [])) ≡ 0
+day-fine : (d before s : ℕ) → d ≤ 366 → s ≤ 10000 → s ≤ before → line_fault d before (Some (d ∷ s ∷ [])) ≡ 0
 unfolding line_fault
 day-fine d before s h l r = rw (le-leb d 366 h) (sym (fine d before d s refl l r))
 
 -- the lines of shares that never rise, read after the shares of the days before d
 days-back : (d before : ℕ) (done ss : List ℕ) → d + length ss ≡ 367 → before ≤ 10000 → never_rising before ss ≡ true
-    → read_from d before done (map some (day_lines d ss)) ≡ read_as (done ++ ss)
+    → read_from d before done (map Some (day_lines d ss)) ≡ read_as (done ++ ss)
 unfolding read_from
 days-back d before done [] n h e =
     let last : d ≡ 367 = omega arith in
@@ -93,18 +93,18 @@ record ReadOn (d before : ℕ) (done : List ℕ) (ls : List (Option (List ℕ)))
   all : shares ≡ done ++ ahead
   days : d + length ahead ≡ 367
   falls : never_rising before ahead ≡ true
-  lines : ls ≡ map some (day_lines d ahead)
+  lines : ls ≡ map Some (day_lines d ahead)
 
 -- one line more
 one_more : (d before s : ℕ) (done shares : List ℕ) (ls : List (Option (List ℕ))) → s ≤ before
     → ReadOn (d + 1) s (done ++ (s ∷ [])) ls shares
-    → ReadOn d before done (some (filled day_text (d ∷ s ∷ []) []) ∷ ls) shares
+    → ReadOn d before done (Some (filled day_text (d ∷ s ∷ []) []) ∷ ls) shares
 one_more d before s done shares ls h r = record {
   ahead = s ∷ r.ahead;
   all = r.all ∙ append_assoc done (s ∷ []) r.ahead;
   days = omega (arith, r.days);
   falls = rw (le-leb s before h) r.falls;
-  lines = ap (λ (x : List (Option (List ℕ))). some (filled day_text (d ∷ s ∷ []) []) ∷ x) (r.lines ∙ rw (add-one d));
+  lines = ap (λ (x : List (Option (List ℕ))). Some (filled day_text (d ∷ s ∷ []) []) ∷ x) (r.lines ∙ rw (add-one d));
 }
 
 -- a list of two numbers, by their places
@@ -115,7 +115,7 @@ two (a ∷ b ∷ []) l = refl
 two (a ∷ b ∷ c ∷ v) l = absurd (omega arith)
 
 -- a line whose numbers have no fault is the line of its day
-line-fine : (d before : ℕ) (l v : List ℕ) → line_numbers day_text l ≡ some v → line_fault d before (some v) ≡ 0
+line-fine : (d before : ℕ) (l v : List ℕ) → line_numbers day_text l ≡ Some v → line_fault d before (Some v) ≡ 0
     → (l ≡ filled day_text (d ∷ get_or v 1 0 ∷ []) []) × (get_or v 1 0 ≤ before)
 unfolding line_fault holes capital
 line-fine d before l v e f =
@@ -149,22 +149,22 @@ read-on [] d before done shares e =
       lines = refl;
     })
     (λ h. absurd (no_success 27 0 shares (sym (short_of_days d before done h) ∙ e)))
-read-on (none ∷ ls) d before done shares e = absurd (no_success 27 d shares e)
-read-on (some l ∷ ls) d before done shares e =
+read-on (None ∷ ls) d before done shares e = absurd (no_success 27 d shares e)
+read-on (Some l ∷ ls) d before done shares e =
     by-numbers (line_numbers day_text l) refl (λ x. read-on ls (d + 1) x (done ++ (x ∷ [])) shares)
   where
-    by-fault : (v : List ℕ) → line_numbers day_text l ≡ some v → (n : ℕ) → line_fault d before (some v) ≡ n
+    by-fault : (v : List ℕ) → line_numbers day_text l ≡ Some v → (n : ℕ) → line_fault d before (Some v) ≡ n
         → unless_fault n d (read_from (d + 1) (get_or v 1 0) (done ++ (get_or v 1 0 ∷ [])) ls) ≡ read_as shares
-        → Again d done ls shares → ReadOn d before done (some l ∷ ls) shares
+        → Again d done ls shares → ReadOn d before done (Some l ∷ ls) shares
     by-fault v q zero z h again =
         let f = line-fine d before l v q z in
         rw f.0 (one_more d before (get_or v 1 0) done shares ls f.1 (again (get_or v 1 0) h))
     by-fault v q (suc n) z h again = absurd (no_success n d shares h)
 
     by-numbers : (o : Option (List ℕ)) → line_numbers day_text l ≡ o → Again d done ls shares
-        → ReadOn d before done (some l ∷ ls) shares
-    by-numbers none q again = absurd (no_success 27 d shares (rw q at e))
-    by-numbers (some v) q again = by-fault v q (line_fault d before (some v)) refl (rw q at e) again
+        → ReadOn d before done (Some l ∷ ls) shares
+    by-numbers None q again = absurd (no_success 27 d shares (rw q at e))
+    by-numbers (Some v) q again = by-fault v q (line_fault d before (Some v)) refl (rw q at e) again
 
 -- what a text is that shares are read from: 366 shares that never rise, and their text
 pub record Scales (s ss : List ℕ) : Type 0 where

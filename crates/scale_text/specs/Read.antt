@@ -1,7 +1,9 @@
 -- Document 02, Q-12: "It is read as 366 lines `(day D S)`, D from 1 to 366 in order, S 0 to 10,000 and never rising."
 -- Assumes nothing.
 use Rattle.std.specs.Prelude.{true, false, cond, List, [], ◌∷◌, ◌++◌, ℕ, zero, suc, ◌+◌, eqb, leb, replicate, get_or}
-use Rattle.std.proofs.Math.Option.{Option, none, some}
+use Rattle.std.specs.Prelude.{Option, None, Some, Result, Ok, Err}
+use Rattle.refusal.specs.declared.Refused.{Refused}
+use Rattle.refusal.specs.Refusal.{number_of}
 use Rattle.text.specs.Bytes.{bytes}
 use Rattle.text.specs.Template.{line_numbers}
 use Rattle.text.specs.Lines.{lines_of}
@@ -19,6 +21,11 @@ refused_at n w = record { refusal = n; line = w; scale = record { shares = repli
 abbrev pub read_as : List ℕ → ScaleReading
 read_as shares = record { refusal = 0; line = 0; scale = record { shares = shares } }
 
+-- what is answered where the shares of a text were read, or refused
+abbrev pub reading_of : Result (List ℕ) Refused → ScaleReading
+reading_of (Ok shares) = read_as shares
+reading_of (Err f) = refused_at (number_of f.refusal) f.number
+
 -- what the rules find at fault with D and S on the line of day d, after the share of the day before: 28, "a day out of
 -- order"; 29, "a share out of range"; 30, "a rising share"; on one line the lowest
 unfoldable pub day_fault : (d before D S : ℕ) → ℕ
@@ -26,18 +33,18 @@ day_fault d before D S = cond (eqb D d) (cond (leb S 10000) (cond (leb S before)
 
 -- the fault of a line in the place of day d; a line that is no such form, and any line after the 366th, is 28
 unfoldable pub line_fault : (d before : ℕ) → Option (List ℕ) → ℕ
-line_fault d before none = 28
-line_fault d before (some v) = cond (leb d 366) (day_fault d before (get_or v 0 0) (get_or v 1 0)) 28
+line_fault d before None = 28
+line_fault d before (Some v) = cond (leb d 366) (day_fault d before (get_or v 0 0) (get_or v 1 0)) 28
 
 -- a line's numbers; bytes after the last line feed are no form
 abbrev pub day_numbers : Option (List ℕ) → Option (List ℕ)
-day_numbers none = none
-day_numbers (some l) = line_numbers day_text l
+day_numbers None = None
+day_numbers (Some l) = line_numbers day_text l
 
 -- the share of a line that is the form
 abbrev pub share_in : Option (List ℕ) → ℕ
-share_in none = 0
-share_in (some v) = get_or v 1 0
+share_in None = 0
+share_in (Some v) = get_or v 1 0
 
 -- fault n of line w, or what the lines after it give where n is 0
 abbrev pub unless_fault : (n w : ℕ) → ScaleReading → ScaleReading

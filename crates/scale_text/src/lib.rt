@@ -1,18 +1,13 @@
 // Reading a client's own time scale.
 #![tactic(auto)]
 
-ghost use Rattle.std.specs.Prelude.{◌≡◌, replicate};
-ghost use Rattle.text.specs.Template.{numbers_by};
-ghost use Rattle.scale_text.specs.Read.{day_text, refused_at, read_as, day_fault, read_of};
+ghost use Rattle.std.specs.Prelude.{◌≡◌};
+ghost use Rattle.refusal.specs.Refusal.{refusal_number};
+ghost use Rattle.scale_text.specs.Read.{reading_of, day_fault, read_of};
 
-use scale::{DAYS, NOT_A_SCALE, WHOLE};
-use text::template::Numbers;
+use refusal::{Refusal, Refused};
+use scale::{DAYS, WHOLE};
 use text::{line, template};
-
-// A share that is out of range, and one above that of the day before.
-const SHARE_OUTSIDE: u64 = 29;
-
-const SHARE_RISING: u64 = 30;
 
 // A scale: the shares of the days 1 to 366, in basis points.
 #[repr(C)]
@@ -22,7 +17,7 @@ pub struct Scale {
 }
 
 // What reading answers: refusal 0 and the scale, or a refusal, its line and a scale with every share 0. The line is 0
-// where no single line is at fault.
+// where no single line is at fault. The refusal is a number, as in the struct of the header.
 #[repr(C)]
 #[derive(Clone, Copy)]
 pub struct ScaleReading {
@@ -31,94 +26,79 @@ pub struct ScaleReading {
     pub scale: Scale,
 }
 
-// Every share 0.
-fn no_shares() -> [u64; DAYS]
-    ensures { result ≡ replicate 366 0 }
-{
-    [0u64; DAYS]
-}
+// The shares read, or what refused the call.
+impl From<Result<[u64; DAYS], Refused>> for ScaleReading {
+    ghost from_gives = { λ read reading. reading ≡ reading_of read };
 
-// A refusal.
-fn refused(refusal: u64, line: u64) -> ScaleReading
-    ensures { result ≡ refused_at refusal line }
-{
-    ScaleReading {
-        refusal,
-        line,
-        scale: Scale {
-            shares: no_shares(),
-        },
+    fn from(read: Result<[u64; DAYS], Refused>) -> ScaleReading {
+        match read {
+            Ok(shares) => ScaleReading {
+                refusal: 0,
+                line: 0,
+                scale: Scale { shares },
+            },
+            Err(refused) => ScaleReading {
+                refusal: refused.refusal.number(),
+                line: refused.number,
+                scale: Scale { shares: [0; DAYS] },
+            },
+        }
     }
 }
 
-// A success.
-fn accepted(shares: [u64; DAYS]) -> ScaleReading
-    ensures { result ≡ read_as shares }
+// What is at fault with the numbers on a day's line, after the share of the day before.
+fn fault(day: u64, before: u64, number: u64, share: u64) -> Result<(), Refusal>
+    ensures { refusal_number result ≡ day_fault day before number share }
 {
-    ScaleReading {
-        refusal: 0,
-        line: 0,
-        scale: Scale { shares },
-    }
-}
-
-// The numbers of a line, if it is a day's.
-fn numbers_of(line: &[u8]) -> Numbers
-    ensures { result ≡ numbers_by day_text line.now }
-{
-    template::read_line(b"(day D S)", line)
-}
-
-// What is at fault with the numbers on a day's line, after the share of the day before; 0 for nothing.
-fn fault(day: u64, before: u64, number: u64, share: u64) -> u64
-    ensures { result ≡ day_fault day before number share }
-{
-    if number == day {} else {
-        return NOT_A_SCALE;
+    if number != day {
+        return Err(Refusal::NotAScale);
     }
     if WHOLE < share {
-        return SHARE_OUTSIDE;
+        return Err(Refusal::ShareOutside);
     }
     if before < share {
-        return SHARE_RISING;
+        return Err(Refusal::ShareRising);
     }
-    0
+    Ok(())
 }
 
-// Reads a scale text. Bytes after the 366th line are 28 of line 367, whatever they are.
-pub fn read(text: &[u8]) -> ScaleReading
-    ensures { result ≡ read_of text.now }
+// The shares of a text's lines, or the first line at fault. Bytes after the 366th line are 28 of line 367, whatever
+// they are.
+fn read_days(text: &[u8]) -> Result<[u64; DAYS], Refused>
+    ensures { reading_of result ≡ read_of text.now }
 {
-    let mut shares = no_shares();
+    let mut shares = [0u64; DAYS];
     let mut before = WHOLE;
-    let mut k = 0;
     let mut at = 0;
-    while at < text.len() {
-        if k == DAYS {
-            return refused(NOT_A_SCALE, 367);
+    for k in 0..DAYS {
+        if text.len() <= at {
+            return Err(Refusal::NotAScale.at(0));
         }
         let day = k as u64 + 1;
         let end = line::end(text, at);
         if end == text.len() {
-            return refused(NOT_A_SCALE, day);
+            return Err(Refusal::NotAScale.at(day));
         }
-        let numbers = numbers_of(&text[at..end]);
-        if numbers.found {} else {
-            return refused(NOT_A_SCALE, day);
-        }
-        let values = numbers.values;
+        let Some(values) = template::read_line(b"(day D S)", &text[at..end]) else {
+            return Err(Refusal::NotAScale.at(day));
+        };
         let share = values[1];
-        let found = fault(day, before, values[0], share);
-        if found != 0 {
-            return refused(found, day);
+        if let Err(found) = fault(day, before, values[0], share) {
+            return Err(found.at(day));
         }
         shares[k] = share;
         before = share;
-        k += 1;
         at = end + 1;
     }
-    if k == DAYS {
-        return accepted(shares);
+    if at < text.len() {
+        return Err(Refusal::NotAScale.at(367));
     }
-    refused(NOT_A_SCALE, 0)
+    Ok(shares)
+}
+
+// Reads a scale text.
+pub fn read(text: &[u8]) -> ScaleReading
+    ensures { result ≡ read_of text.now }
+{
+    read_days(text).into()
 }

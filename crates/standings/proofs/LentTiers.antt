@@ -1,4 +1,4 @@
--- A tier of lent terms and a standing's numbers of it that a year may have, through amounts on a day of some share.
+-- A tier of lent terms, spent amounts and timed premiums that a year may have, through amounts on a day of some share.
 -- Assumes nothing.
 use mathlib.Core.Path.{◌≡◌, refl, sym, ap, ◌∙◌}
 use mathlib.Core.Bool.{true, ◌&&◌}
@@ -7,32 +7,37 @@ use Prim.Native.Nat.{ℕ, ◌+◌, ◌-◌, ◌≤◌}
 use native.Mathlib.Omega.{arith}
 use borrow.Author.Tests.{eqb-true}
 use lib.Dec.{eqb}
-use lib.ListN.{length, take, drop, replicate, length-map, length-append, length-drop, take-append-drop}
-use lib.Seq.{length-take-le, take_at, drop_at, slice, slice_empty}
+use lib.ListN.{length, take, drop, replicate, length-map, length-drop, take-append-drop}
+use lib.Seq.{length-take-le, take_at, slice_empty, drop-drop}
+use borrow.Rule.Slice.PartMut.{put_mid}
+use Rattle.std.specs.List.{between}
+use Rattle.std.proofs.lemmas.List.{length-take}
+use Rattle.std.proofs.lemmas.Slice.{between_is}
 use Rattle.lists.specs.Each.{Each}
 use Rattle.lists.specs.Chains.{every}
 use Rattle.lists.specs.Places.{in_places}
 use Rattle.lists.proofs.Chains.{both}
-use Rattle.lists.proofs.Each.{each-drop, each_take}
+use Rattle.lists.proofs.Each.{each-drop, each_take, each-chained}
 use Rattle.layer.specs.declared.terms.Terms.{Terms}
 use Rattle.layer.specs.declared.record.Layer.{Layer}
 use Rattle.layer.specs.declared.record.Sums.{Sums}
-use Rattle.layer.specs.declared.tier.Tier.{Tier}
 use Rattle.layer.specs.Layer.{sums_of}
-use Rattle.layer.specs.Numbers.{tier_from, held_width}
-use Rattle.layer.specs.Tier.{layers_through, recoveries_through, dues_through, sums_through, tier_after}
-use Rattle.layer.specs.Ranges.{Sound, Rising, SoundLayers}
+use Rattle.layer.specs.Tier.{layers_through, recoveries_through, dues_through, sums_through}
+use Rattle.layer.specs.Ranges.{InRange, Sound, Rising, SoundLayers}
 use Rattle.layer.proofs.Through.{on_each, layers-each, recoveries-each, dues-each}
-use Rattle.layer.proofs.Tiers.{layers-through}
 use Rattle.layer.proofs.Still.{Still, still_full, layers-between, recoveries-between, dues-between}
+use Rattle.programme.specs.Rules.{band_end}
+use Rattle.programme.specs.Valid.{layer_passes}
+use Rattle.programme.proofs.Bounds.{terms_in_range}
+use Rattle.programme.proofs.Lawful.{layer-passed}
 use Rattle.programme.proofs.Places.{places-length}
-use Rattle.year.specs.Standing.{spent_of, timed_of, layers_with, layers_held, within_cap, within_premium}
+use Rattle.year.specs.Standing.{spent_of, timed_of, layers_with, within_cap, within_premium}
 use Rattle.year.proofs.Layers.{Carries, passes-carries, carries-length, carries-sound, carries-rising, carries-through}
 use Rattle.year.proofs.Layers.{stored-loads, stored-passes}
-use Rattle.standings.specs.Tier.{largest_of, reached_by, exhausted_of, layers_from, places_of, stored_over, CanBear}
-use Rattle.standings.proofs.Loads.{with_length, held-length}
+use Rattle.standings.specs.Tier.{largest_of, reached_by, exhausted_of, CanBear}
+use Rattle.standings.proofs.Loads.{with_length, with_take, with-between}
 use Rattle.standings.proofs.Stores.{between-stored}
-use Rattle.standings.proofs.Extent.{reached_le, still_after, exhausted_le, exhausted_full}
+use Rattle.standings.proofs.Extent.{still_after, exhausted_blind, exhausted_full}
 
 -- places that pass the test hold 0
 all-zero : (ms : List ℕ) → every (λ (m : ℕ). eqb m 0) ms ≡ true → ms ≡ replicate (length ms) 0
@@ -64,114 +69,96 @@ places-back of k ls ms eight long front rest =
     ∙ ap (λ (l : List ℕ). take k ms ++ l) (sym (all-zero (drop k ms) rest))
     ∙ take-append-drop k ms
 
-module _ {ns hs : List ℕ} (b : CanBear ns hs) where
-  carries : Carries (tier_from ns) (layers_from ns hs)
-  carries = passes-carries (tier_from ns) (take 8 hs) (drop 8 hs) b.held
+module _ {ts : List Terms} {ms ns : List ℕ} (b : CanBear ts ms ns) where
+  abbrev lent : List Layer
+  lent = layers_with ts ms ns
 
-  pub bears_sound : Each Sound (layers_from ns hs)
-  bears_sound = carries-sound (tier_from ns) (layers_from ns hs) b.terms carries
+  carries : Carries ts lent
+  carries = passes-carries ts ms ns b.held
 
-  pub bears_rising : Rising 0 (layers_from ns hs)
-  bears_rising = carries-rising (tier_from ns) (layers_from ns hs) b.terms carries
+  pub bears_sound : Each Sound lent
+  bears_sound = carries-sound ts lent b.terms carries
 
-  first-half : length (take 8 hs) ≡ 8
-  first-half = length-take-le 8 hs (omega (arith, b.places))
+  pub bears_ranges : Each InRange ts
+  bears_ranges =
+      each-chained InRange layer_passes band_end (λ n t e. terms_in_range t (layer-passed n t e).0) 0 ts b.terms
 
-  second-half : length (drop 8 hs) ≡ 8
-  second-half = omega (arith, length-drop 8 hs, b.places)
+  pub bears_rising : Rising 0 lent
+  bears_rising = carries-rising ts lent b.terms carries
+
+  -- 0 in the places past the layers
+  unused : every (λ (m : ℕ). eqb m 0) (drop (length ts) ms) && every (λ (n : ℕ). eqb n 0) (drop (length ts) ns) ≡ true
+  unused = (both (every (λ (y : Layer). within_cap y && within_premium y) lent) _ b.held).1
 
   -- the numbers are those of their own layers
-  pub places-held : hs ≡ places_of (layers_from ns hs)
-  places-held =
-      let k = length (tier_from ns) in
-      let ls = layers_from ns hs in
-      let long = with_length (tier_from ns) (take 8 hs) (drop 8 hs) in
-      let unused = (both (every (λ (y : Layer). within_cap y && within_premium y) ls) _ b.held).1 in
-      let zero = both (every (λ (m : ℕ). eqb m 0) (drop k (take 8 hs))) _ unused in
-      let spent =
-      places-back (λ (y : Layer). y.spent.0) k ls (take 8 hs) first-half long
-      (spent_with (tier_from ns) (take 8 hs) (drop 8 hs) (omega (arith, b.few, first-half))) zero.0 in
-      let timed =
-      places-back (λ (y : Layer). y.timed.0) k ls (drop 8 hs) second-half long
-      (timed_with (tier_from ns) (take 8 hs) (drop 8 hs) (omega (arith, b.few, second-half))) zero.1 in
-      sym (take-append-drop 8 hs) ∙ (λ j. sym spent j ++ sym timed j)
+  pub spent-lent : ms ≡ in_places 0 (spent_of lent)
+  spent-lent =
+      let zero = (both (every (λ (m : ℕ). eqb m 0) (drop (length ts) ms)) _ unused).0 in
+      sym
+      (places-back (λ (y : Layer). y.spent.0) (length ts) lent ms b.spent-places (with_length ts ms ns)
+      (spent_with ts ms ns (omega (arith, b.few, b.spent-places))) zero)
 
--- the halves of the numbers of at most eight layers
-module _ (ls : List Layer) (few : length ls ≤ 8) where
-  eight : (of : Layer → ℕ) → length (in_places 0 (map of ls)) ≡ 8
-  eight of = places-length 0 (map of ls) (omega (arith, length-map ls of))
+  pub timed-lent : ns ≡ in_places 0 (timed_of lent)
+  timed-lent =
+      let zero = (both (every (λ (m : ℕ). eqb m 0) (drop (length ts) ms)) _ unused).1 in
+      sym
+      (places-back (λ (y : Layer). y.timed.0) (length ts) lent ns b.timed-places (with_length ts ms ns)
+      (timed_with ts ms ns (omega (arith, b.few, b.timed-places))) zero)
 
-  pub spent-half : take 8 (places_of ls) ≡ in_places 0 (spent_of ls)
-  spent-half = take_at (in_places 0 (spent_of ls)) (in_places 0 (timed_of ls)) 8 (eight (λ (y : Layer). y.spent.0))
-
-  pub timed-half : drop 8 (places_of ls) ≡ in_places 0 (timed_of ls)
-  timed-half = drop_at (in_places 0 (spent_of ls)) (in_places 0 (timed_of ls)) 8 (eight (λ (y : Layer). y.spent.0))
-
-  pub both_halves : length (places_of ls) ≡ held_width
-  both_halves =
-      omega (
-        arith,
-        length-append (in_places 0 (spent_of ls)) (in_places 0 (timed_of ls)),
-        eight (λ (y : Layer). y.spent.0),
-        eight (λ (y : Layer). y.timed.0),
-      )
-
-  pub held-halves : (ts : List Terms)
-      → layers_held ts (places_of ls) ≡ layers_with ts (in_places 0 (spent_of ls)) (in_places 0 (timed_of ls))
-  held-halves ts i = layers_with ts (spent-half i) (timed-half i)
-
-module _ {ns hs : List ℕ} (b : CanBear ns hs) (share : ℕ) (fair : share ≤ 10000) (xs : List ℕ) where
+module _ {ts : List Terms} {ms ns : List ℕ} (b : CanBear ts ms ns) (share : ℕ) (fair : share ≤ 10000)
+    (xs : List ℕ) where
   abbrev borne_layers : List Layer
-  borne_layers = layers_through share xs (layers_from ns hs)
+  borne_layers = layers_through share xs (layers_with ts ms ns)
 
-  after : Carries (tier_from ns) borne_layers
-  after = carries-through (tier_from ns) b.terms share fair (layers_from ns hs) xs (carries b)
+  after : Carries ts borne_layers
+  after = carries-through ts b.terms share fair (layers_with ts ms ns) xs (carries b)
 
-  few-after : length borne_layers ≤ 8
-  few-after = omega (arith, b.few, carries-length (tier_from ns) borne_layers after)
+  eight : (of : Layer → ℕ) → length (in_places 0 (map of borne_layers)) ≡ 8
+  eight of =
+      places-length 0 (map of borne_layers)
+      (omega (arith, b.few, carries-length ts borne_layers after, length-map borne_layers of))
 
   -- the numbers of the layers after amounts make these layers
-  pub loaded-after : layers_from ns (places_of borne_layers) ≡ borne_layers
-  loaded-after =
-      held-halves borne_layers few-after (tier_from ns) ∙ stored-loads (tier_from ns) borne_layers after
+  pub loaded-after : layers_with ts (in_places 0 (spent_of borne_layers)) (in_places 0 (timed_of borne_layers))
+      ≡ borne_layers
+  loaded-after = stored-loads ts borne_layers after
 
   -- and a year may have them
-  pub still_bears : CanBear ns (places_of borne_layers)
+  pub still_bears : CanBear ts (in_places 0 (spent_of borne_layers)) (in_places 0 (timed_of borne_layers))
   still_bears = record {
     few = b.few;
     terms = b.terms;
-    places = both_halves borne_layers few-after;
-    held =
-        rw (spent-half borne_layers few-after, timed-half borne_layers few-after)
-        (stored-passes (tier_from ns) borne_layers after);
+    spent-places = eight (λ (y : Layer). y.spent.0);
+    timed-places = eight (λ (y : Layer). y.timed.0);
+    held = stored-passes ts borne_layers after;
   }
 
 -- amounts of which m is the largest reach n layers
-module _ {ns hs : List ℕ} (b : CanBear ns hs) (share : ℕ) (fair : share ≤ 10000) (xs : List ℕ) (m n : ℕ)
-    (most : m ≡ largest_of xs) (reach : n ≡ reached_by m (tier_from ns)) where
+module _ {ts : List Terms} {ms ns : List ℕ} (b : CanBear ts ms ns) (share : ℕ) (fair : share ≤ 10000)
+    (xs : List ℕ) (m n : ℕ) (most : m ≡ largest_of xs) (reach : n ≡ reached_by m ts) (inside : n ≤ length ts) where
   abbrev ls : List Layer
-  ls = layers_from ns hs
+  ls = layers_with ts ms ns
 
-  pub reached_inside : n ≤ length (tier_from ns)
-  reached_inside = rw reach (reached_le m (tier_from ns))
-
-  pub reached_few : n ≤ 8
-  reached_few = omega (arith, reached_inside, b.few)
+  pub reached_ranges : Each InRange (take n ts)
+  reached_ranges = each_take InRange n ts (bears_ranges b)
 
   reached_layers : length (take n ls) ≡ n
-  reached_layers = length-take-le n ls (omega (arith, reached_inside, held-length (tier_from ns) hs))
+  reached_layers = length-take-le n ls (omega (arith, inside, with_length ts ms ns))
 
   -- the layers after them bear nothing
   rest-sound : Each Sound (drop n ls)
   rest-sound = each-drop Sound n ls (bears_sound b)
 
   rest-still : Still xs (drop n ls)
-  rest-still = rw (reach, most) (still_after xs (tier_from ns) hs (bears_sound b) (bears_rising b))
+  rest-still = rw (reach, most) (still_after xs ts ms ns (bears_sound b) (bears_rising b))
 
   -- and of those, the first f, which are exhausted
-  module _ (f : ℕ) (full : f ≡ exhausted_of (take n ls)) where
-    pub exhausted_inside : f ≤ n
-    exhausted_inside = rw full (omega (arith, exhausted_le (take n ls), reached_layers))
+  module _ (f : ℕ) (full : f ≡ exhausted_of (layers_with (take n ts) ms [])) (before : f ≤ length (take n ts)) where
+    few : f ≤ n
+    few = omega (arith, before, length-take n ts)
+
+    spent-up : f ≡ exhausted_of (take n ls)
+    spent-up = full ∙ exhausted_blind (take n ts) ms [] ns ∙ ap exhausted_of (with_take n ts ms ns)
 
     abbrev front : List Layer
     front = take f (take n ls)
@@ -180,119 +167,126 @@ module _ {ns hs : List ℕ} (b : CanBear ns hs) (share : ℕ) (fair : share ≤ 
     front-sound = each_take Sound f (take n ls) (each_take Sound n ls (bears_sound b))
 
     front-still : Still xs front
-    front-still = still_full xs front front-sound (rw full (exhausted_full (take n ls)))
+    front-still = still_full xs front front-sound (rw spent-up (exhausted_full (take n ls)))
 
-    apart : front ++ (slice f n ls ++ drop n ls) ≡ ls
+    apart : front ++ (between f n ls ++ drop n ls) ≡ ls
     apart =
-        sym (append_assoc front (slice f n ls) (drop n ls))
+        ap (λ (l : List Layer). front ++ (l ++ drop n ls)) (between_is ls f n)
+        ∙ sym (append_assoc front (drop f (take n ls)) (drop n ls))
         ∙ ap (λ (l : List Layer). l ++ drop n ls) (take-append-drop f (take n ls))
         ∙ take-append-drop n ls
 
-    layers-moved : front ++ (layers_through share xs (slice f n ls) ++ drop n ls) ≡ layers_through share xs ls
+    layers-moved : front ++ (layers_through share xs (between f n ls) ++ drop n ls) ≡ layers_through share xs ls
     layers-moved =
         sym
-        (layers-between share fair xs front (slice f n ls) (drop n ls) front-sound front-still rest-sound rest-still)
+        (layers-between share fair xs front (between f n ls) (drop n ls) front-sound front-still rest-sound rest-still)
         ∙ ap (layers_through share xs) apart
 
-    recoveries-moved : recoveries_through xs (slice f n ls) ≡ recoveries_through xs ls
+    recoveries-moved : recoveries_through xs (between f n ls) ≡ recoveries_through xs ls
     recoveries-moved =
         sym
-        (recoveries-between share fair xs front (slice f n ls) (drop n ls) front-sound front-still rest-sound
+        (recoveries-between share fair xs front (between f n ls) (drop n ls) front-sound front-still rest-sound
         rest-still)
         ∙ ap (recoveries_through xs) apart
 
-    dues-moved : dues_through share xs (slice f n ls) ≡ dues_through share xs ls
+    dues-moved : dues_through share xs (between f n ls) ≡ dues_through share xs ls
     dues-moved =
-        sym (dues-between share fair xs front (slice f n ls) (drop n ls) front-sound front-still rest-sound rest-still)
+        sym (dues-between share fair xs front (between f n ls) (drop n ls) front-sound front-still rest-sound rest-still)
         ∙ ap (dues_through share xs) apart
+
+    moved_length : length (between f n ls) ≡ n - f
+    moved_length =
+        omega (arith, length-take (n - f) (drop f ls), length-drop f ls, with_length ts ms ns, inside, few)
 
     -- no layer is left that moves
     module _ (none : f ≡ n) where
-      empty : slice f n ls ≡ []
-      empty = rw none (slice_empty n ls)
+      empty : between f n ls ≡ []
+      empty = between_is ls f n ∙ rw none (slice_empty n ls)
 
-      pub places_same : hs ≡ places_of (layers_through share xs ls)
-      places_same =
-          let same : layers_through share xs (slice f n ls) ≡ slice f n ls = rw empty (layers-each share xs []) in
-          let all = ap (λ (l : List Layer). front ++ (l ++ drop n ls)) same ∙ apart in
-          places-held b ∙ ap places_of (sym all ∙ layers-moved)
+      unmoved : layers_through share xs ls ≡ ls
+      unmoved =
+          let same : layers_through share xs (between f n ls) ≡ between f n ls = rw empty (layers-each share xs []) in
+          sym layers-moved ∙ ap (λ (l : List Layer). front ++ (l ++ drop n ls)) same ∙ apart
 
-      pub nothing-borne : (s : Sums) → s.share ≡ share → s.recovered.0 ≡ 0 → s.premium.0 ≡ 0
+      pub spent_same : ms ≡ in_places 0 (spent_of (layers_through share xs ls))
+      spent_same = spent-lent b ∙ ap (λ (l : List Layer). in_places 0 (spent_of l)) (sym unmoved)
+
+      pub timed_same : ns ≡ in_places 0 (timed_of (layers_through share xs ls))
+      timed_same = timed-lent b ∙ ap (λ (l : List Layer). in_places 0 (timed_of l)) (sym unmoved)
+
+      pub nothing-borne : (s : Sums) → s ≡ sums_of share 0 0
           → s ≡ sums_of share (recoveries_through xs ls) (dues_through share xs ls)
-      nothing-borne s e r p =
-          let no_recovery : recoveries_through xs (slice f n ls) ≡ 0 = rw empty (recoveries-each xs []) in
-          let nothing-due : dues_through share xs (slice f n ls) ≡ 0 = rw empty (dues-each share xs []) in
-          let recovered = r ∙ sym no_recovery ∙ recoveries-moved in
-          let premium = p ∙ sym nothing-due ∙ dues-moved in
-          λ j. sums_of (e j) (recovered j) (premium j)
-
-    moved-end : f + (n - f) ≡ n
-    moved-end = omega (arith, exhausted_inside)
-
-    pub moved-few : n - f ≤ 8
-    moved-few = omega (arith, reached_few)
-
-    pub moved_inside : f + (n - f) ≤ length (tier_from ns)
-    moved_inside = omega (arith, moved-end, reached_inside)
-
-    pub moved-places : f + (n - f) ≤ 8
-    moved-places = omega (arith, moved-end, reached_few)
+      nothing-borne s e =
+          let no_recovery : recoveries_through xs (between f n ls) ≡ 0 = rw empty (recoveries-each xs []) in
+          let nothing-due : dues_through share xs (between f n ls) ≡ 0 = rw empty (dues-each share xs []) in
+          let recovered = sym no_recovery ∙ recoveries-moved in
+          let premium = sym nothing-due ∙ dues-moved in
+          e ∙ (λ j. sums_of share (recovered j) (premium j))
 
     -- the records of those that are left
-    module _ (rs : List Layer) (loaded : take (n - f) rs ≡ slice f (f + (n - f)) ls) where
-      first : take (n - f) rs ≡ slice f n ls
-      first = loaded ∙ ap (λ (k : ℕ). slice f k ls) moved-end
+    module _ (rs : List Layer)
+        (loaded : take (length (between f n ts)) rs ≡ layers_with (between f n ts) (between f n ms) (between f n ns)) where
+      moved_terms : length (between f n ts) ≡ n - f
+      moved_terms = omega (arith, length-take (n - f) (drop f ts), length-drop f ts, inside, few)
 
-      moved_length : length (slice f n ls) ≡ n - f
-      moved_length = omega (arith, length-drop f (take n ls), reached_layers)
+      first : take (n - f) rs ≡ between f n ls
+      first = ap (λ (k : ℕ). take k rs) (sym moved_terms) ∙ loaded ∙ with-between f n ts ms ns
 
       pub records_sound : SoundLayers (take (n - f) rs)
       records_sound = rw first record {
-        few = omega (arith, moved_length, reached_few);
-        each = each-drop Sound f (take n ls) (each_take Sound n ls (bears_sound b));
+        few = omega (arith, moved_length, inside, b.few);
+        each = each_take Sound (n - f) (drop f ls) (each-drop Sound f ls (bears_sound b));
       }
 
-      pub sums-borne : (s : Sums) → s.share ≡ share → s.recovered.0 ≡ 0 → s.premium.0 ≡ 0 → (t : Sums)
-          → t ≡ sums_through xs s (take (n - f) rs)
+      pub sums-borne : (s : Sums) → s ≡ sums_of share 0 0 → (t : Sums) → t ≡ sums_through xs s (take (n - f) rs)
           → t ≡ sums_of share (recoveries_through xs ls) (dues_through share xs ls)
-      sums-borne s e r p t is =
-          let recovered : s.recovered.0 + recoveries_through xs (take (n - f) rs) ≡ recoveries_through xs ls =
+      sums-borne s e t is =
+          let recovered : 0 + recoveries_through xs (take (n - f) rs) ≡ recoveries_through xs ls =
           rw first (omega (arith, recoveries-moved)) in
-          let premium : s.premium.0 + dues_through s.share xs (take (n - f) rs) ≡ dues_through share xs ls =
-          rw (first, e) (omega (arith, dues-moved)) in
-          is ∙ (λ j. sums_of (e j) (recovered j) (premium j))
+          let premium : 0 + dues_through share xs (take (n - f) rs) ≡ dues_through share xs ls =
+          rw first (omega (arith, dues-moved)) in
+          is
+          ∙ ap (λ (u : Sums). sums_through xs u (take (n - f) rs)) e
+          ∙ (λ j. sums_of share (recovered j) (premium j))
 
-      pub places-borne : (t : Tier) → t ≡ tier_after share xs (record { layers = rs; count = n - f })
-          → (hs' : List ℕ) → hs' ≡ stored_over f (take (n - f) t.layers) hs
-          → hs' ≡ places_of (layers_through share xs ls)
-      places-borne t is hs' stored =
-          let moved = slice f n ls in
-          let gone = layers_through share xs moved in
-          let after : length gone ≡ length moved =
-          ap length (layers-each share xs moved) ∙ length-map moved (on_each share xs) in
-          let long : length front ≡ f =
-          length-take-le f (take n ls) (omega (arith, reached_layers, exhausted_inside)) in
-          let borne : take (n - f) t.layers ≡ gone =
-          ap (λ (u : Tier). take (n - f) u.layers) is
-          ∙ layers-through share xs (record { layers = rs; count = n - f })
-          ∙ ap (layers_through share xs) first in
-          let end : f + length moved ≡ n = omega (arith, moved_length, exhausted_inside) in
-          let few : length ls ≤ 8 = omega (arith, held-length (tier_from ns) hs, b.few) in
-          let half : (of : Layer → ℕ)
-          → take f (in_places 0 (map of ls)) ++ (map of gone ++ drop n (in_places 0 (map of ls)))
-          ≡ in_places 0 (map of (layers_through share xs ls)) =
-          λ of.
-          ap (λ (l : List Layer). take f (in_places 0 (map of l)) ++ (map of gone ++ drop n (in_places 0 (map of l))))
-          (sym apart)
-          ∙ between-stored of front gone moved (drop n ls) f n long after end
-          ∙ ap (λ (l : List Layer). in_places 0 (map of l)) layers-moved in
-          let first-held = ap (take 8) (places-held b) ∙ spent-half ls few in
-          let last-held = ap (drop 8) (places-held b) ∙ timed-half ls few in
-          let until : f + length gone ≡ n = omega (arith, after, end) in
-          let one = half (λ (y : Layer). y.spent.0) in
-          let two = half (λ (y : Layer). y.timed.0) in
-          stored
-          ∙ ap (λ (l : List Layer). stored_over f l hs) borne
-          ∙ (λ j. (take f (first-held j) ++ (spent_of gone ++ drop (until j) (first-held j)))
-          ++ (take f (last-held j) ++ (timed_of gone ++ drop (until j) (last-held j))))
-          ∙ (λ j. one j ++ two j)
+      -- the layers after the amounts, stored over those that were lent
+      module _ (s : Sums) (e : s ≡ sums_of share 0 0) (gone : List Layer)
+          (borne : gone ≡ layers_through s.share xs (take (n - f) rs)) where
+        moved : gone ≡ layers_through share xs (between f n ls)
+        moved =
+            borne ∙ ap (λ (u : Sums). layers_through u.share xs (take (n - f) rs)) e ∙ ap (layers_through share xs) first
+
+        after-length : length gone ≡ length (between f n ls)
+        after-length =
+            ap length (moved ∙ layers-each share xs (between f n ls)) ∙ length-map (between f n ls) (on_each share xs)
+
+        over : (of : Layer → ℕ)
+            → take f (in_places 0 (map of ls)) ++ (map of gone ++ drop n (in_places 0 (map of ls)))
+            ≡ in_places 0 (map of (layers_through share xs ls))
+        over of =
+            let long : length front ≡ f = length-take-le f (take n ls) (omega (arith, reached_layers, few)) in
+            let end : f + length (between f n ls) ≡ n = omega (arith, moved_length, few) in
+            ap (λ (l : List Layer). take f (in_places 0 (map of l)) ++ (map of gone ++ drop n (in_places 0 (map of l))))
+            (sym apart)
+            ∙ between-stored of front gone (between f n ls) (drop n ls) f n long after-length end
+            ∙ ap (λ (l : List Layer). in_places 0 (map of (front ++ (l ++ drop n ls)))) moved
+            ∙ ap (λ (l : List Layer). in_places 0 (map of l)) layers-moved
+
+        stored : (of : Layer → ℕ) (ks : List ℕ) → ks ≡ in_places 0 (map of ls) → (others : List Layer) (js : List ℕ)
+            → js ≡ map of (take (n - f) (gone ++ others))
+            → put_mid f (n - f) ks js ≡ in_places 0 (map of (layers_through share xs ls))
+        stored of ks r others js q =
+            let until : f + (n - f) ≡ n = omega (arith, few) in
+            let own : js ≡ map of gone =
+            q ∙ ap (map of) (take_at gone others (n - f) (omega (arith, after-length, moved_length))) in
+            (λ j. take f (r j) ++ (own j ++ drop-drop (n - f) f (r j) j))
+            ∙ ap (λ (k : ℕ). take f (in_places 0 (map of ls)) ++ (map of gone ++ drop k (in_places 0 (map of ls)))) until
+            ∙ over of
+
+        pub spent_stored : (others : List Layer) (js : List ℕ) → js ≡ spent_of (take (n - f) (gone ++ others))
+            → put_mid f (n - f) ms js ≡ in_places 0 (spent_of (layers_through share xs ls))
+        spent_stored = stored (λ (y : Layer). y.spent.0) ms (spent-lent b)
+
+        pub timed_stored : (others : List Layer) (js : List ℕ) → js ≡ timed_of (take (n - f) (gone ++ others))
+            → put_mid f (n - f) ns js ≡ in_places 0 (timed_of (layers_through share xs ls))
+        timed_stored = stored (λ (y : Layer). y.timed.0) ns (timed-lent b)

@@ -1,4 +1,3 @@
-pub mod Halves
 pub mod Loads
 pub mod Stores
 pub mod Tests
@@ -6,4 +5,3 @@ pub mod Opening
 pub mod Sound
 pub mod Extent
 pub mod LentTiers
-pub mod LaidOut

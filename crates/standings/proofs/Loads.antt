@@ -1,34 +1,19 @@
 -- The layers of some terms, spent amounts and timed premiums, place by place, and their records in the first of eight
--- places: when i are loaded, `slice (f + i) (f + k)` is ahead.
+-- places.
 -- Assumes nothing.
 use mathlib.Core.Path.{◌≡◌, refl, sym, ap, ◌∙◌}
-use mathlib.Core.List.{List, [], ◌∷◌, ◌++◌, append_assoc, append-nil}
-use Prim.Native.Nat.{ℕ, zero, suc, ◌+◌, ◌≤◌, ◌<◌}
-use native.Mathlib.Nat.{add-zero, add_assoc}
+use mathlib.Core.List.{List, [], ◌∷◌}
+use Prim.Native.Nat.{ℕ, zero, suc, ◌+◌, ◌-◌, ◌≤◌, ◌<◌}
 use native.Mathlib.Numerals.{add-one}
 use native.Mathlib.Omega.{arith}
 use lib.ListN.{length, take, drop, get_or, set, length-set}
-use lib.Seq.{slice, slice-cons, slice_empty, get_or-take, get_or-drop, drop-drop, take-suc-set}
+use lib.Seq.{take-suc, take-suc-set, take_all}
+use Rattle.std.specs.List.{between}
+use Rattle.std.proofs.lemmas.List.{length-take}
 use Rattle.layer.specs.declared.terms.Terms.{Terms}
 use Rattle.layer.specs.declared.record.Layer.{Layer}
 use Rattle.layer.specs.Layer.{layer_of}
-use Rattle.year.specs.Standing.{layers_with, layers_held}
-
--- what is ahead of place i is the layer there and what is ahead of the next place
-pub with_next : (i k : ℕ) (ts : List Terms) (ms ns : List ℕ) (d : Terms) → i < k → k ≤ length ts
-    → layers_with (slice i k ts) (drop i ms) (drop i ns)
-    ≡ layer_of (get_or ts i d) (get_or ms i 0) (get_or ns i 0)
-    ∷ layers_with (slice (i + 1) k ts) (drop (i + 1) ms) (drop (i + 1) ns)
-with_next i k ts ms ns d h inside =
-    rw (
-      slice-cons i k ts d h inside,
-      get_or-drop i ms 0 0,
-      get_or-drop i ns 0 0,
-      drop-drop 1 i ms,
-      drop-drop 1 i ns,
-      add-zero,
-      add-one i,
-    )
+use Rattle.year.specs.Standing.{layers_with}
 
 -- as many layers as terms
 pub with_length : (ts : List Terms) (ms ns : List ℕ) → length (layers_with ts ms ns) ≡ length ts
@@ -49,65 +34,75 @@ with_at (t ∷ ts) ms ns (suc i) d d' h =
     with_at ts (drop 1 ms) (drop 1 ns) i d d' (omega arith)
     ∙ (λ j. layer_of (get_or ts i d') (after_first ms i j) (after_first ns i j))
 
--- where both stand in one list
-pub held-length : (ts : List Terms) (hs : List ℕ) → length (layers_held ts hs) ≡ length ts
-held-length ts hs = with_length ts (take 8 hs) (drop 8 hs)
+-- the layers of the first terms, and those from a place on
+pub with_take : (n : ℕ) (ts : List Terms) (ms ns : List ℕ) → layers_with (take n ts) ms ns ≡ take n (layers_with ts ms ns)
+with_take zero ts ms ns = refl
+with_take (suc n) [] ms ns = refl
+with_take (suc n) (t ∷ ts) ms ns =
+    ap (λ (ys : List Layer). layer_of t (get_or ms 0 0) (get_or ns 0 0) ∷ ys) (with_take n ts (drop 1 ms) (drop 1 ns))
 
-pub held_at : (ts : List Terms) (hs : List ℕ) (i : ℕ) (d : Layer) (d' : Terms) → i < length ts → i < 8
-    → get_or (layers_held ts hs) i d ≡ layer_of (get_or ts i d') (get_or hs i 0) (get_or hs (8 + i) 0)
-held_at ts hs i d d' h few =
-    with_at ts (take 8 hs) (drop 8 hs) i d d' h
-    ∙ (λ j. layer_of (get_or ts i d') (get_or-take 8 hs i 0 few j) (get_or-drop 8 hs i 0 j))
+-- places before the first layer are not looked at
+rest_dropped : (n : ℕ) (ms : List ℕ) → drop (suc n) ms ≡ drop n (drop 1 ms)
+rest_dropped zero [] = refl
+rest_dropped (suc n) [] = refl
+rest_dropped n (m ∷ ms) = refl
 
--- i of the k records from place f on are loaded
-pub record Loading (f k : ℕ) (ts : List Terms) (hs : List ℕ) (ys : List Layer) (i : ℕ) : Type 0 where
-  pub within : i ≤ k
-  pub eight : f + k ≤ 8
-  pub inside : f + k ≤ length ts
+with_drop : (n : ℕ) (ts : List Terms) (ms ns : List ℕ)
+    → layers_with (drop n ts) (drop n ms) (drop n ns) ≡ drop n (layers_with ts ms ns)
+with_drop zero ts ms ns = refl
+with_drop (suc n) [] ms ns = refl
+with_drop (suc n) (t ∷ ts) ms ns =
+    (λ j. layers_with (drop n ts) (rest_dropped n ms j) (rest_dropped n ns j))
+    ∙ with_drop n ts (drop 1 ms) (drop 1 ns)
+
+-- places past the last layer are not looked at
+first_taken : (n : ℕ) (ms : List ℕ) → get_or (take (suc n) ms) 0 0 ≡ get_or ms 0 0
+first_taken n [] = refl
+first_taken n (m ∷ ms) = refl
+
+rest_taken : (n : ℕ) (ms : List ℕ) → drop 1 (take (suc n) ms) ≡ take n (drop 1 ms)
+rest_taken zero [] = refl
+rest_taken (suc n) [] = refl
+rest_taken n (m ∷ ms) = refl
+
+with-short : (ts : List Terms) (ms ns : List ℕ) (n : ℕ) → length ts ≤ n → layers_with ts (take n ms) (take n ns) ≡ layers_with ts ms ns
+with-short [] ms ns n h = refl
+with-short (t ∷ ts) ms ns zero h = absurd (omega arith)
+with-short (t ∷ ts) ms ns (suc n) h =
+    (λ j. layer_of t (first_taken n ms j) (first_taken n ns j) ∷ layers_with ts (rest_taken n ms j) (rest_taken n ns j))
+    ∙ ap (λ (ys : List Layer). layer_of t (get_or ms 0 0) (get_or ns 0 0) ∷ ys) (with-short ts (drop 1 ms) (drop 1 ns) n (omega arith))
+
+-- one more element is as it is there
+pub take_next : {A : Type 0} (xs ys : List A) (i : ℕ) (v d : A) → i < length xs → i < length ys → take i xs ≡ take i ys
+    → v ≡ get_or ys i d → take (i + 1) (set xs i v) ≡ take (i + 1) ys
+take_next xs ys i v d h k e q = rw (add-one, take-suc-set xs i v h, take-suc ys i d k, e, q)
+
+-- the layers between two places
+pub with-between : (f n : ℕ) (ts : List Terms) (ms ns : List ℕ)
+    → layers_with (between f n ts) (between f n ms) (between f n ns) ≡ between f n (layers_with ts ms ns)
+with-between f n ts ms ns =
+    with-short (between f n ts) (drop f ms) (drop f ns) (n - f) (omega (arith, length-take (n - f) (drop f ts)))
+    ∙ with_take (n - f) (drop f ts) (drop f ms) (drop f ns)
+    ∙ ap (take (n - f)) (with_drop f ts ms ns)
+
+-- the first i records are made
+pub record Recorded (ts : List Terms) (ms ns : List ℕ) (ys : List Layer) (i : ℕ) : Type 0 where
+  pub few : length ts ≤ 8
   pub places : length ys ≡ 8
-  pub rest : take i ys ++ slice (f + i) (f + k) (layers_held ts hs) ≡ slice f (f + k) (layers_held ts hs)
+  pub made : take i ys ≡ take i (layers_with ts ms ns)
 
-pub load_begins : (f k : ℕ) (ts : List Terms) (hs : List ℕ) (ys : List Layer) → f + k ≤ 8 → f + k ≤ length ts
-    → length ys ≡ 8 → Loading f k ts hs ys 0
-load_begins f k ts hs ys few long places = record {
-  within = omega arith;
-  eight = few;
-  inside = long;
-  places = places;
-  rest = ap (λ (n : ℕ). slice n (f + k) (layers_held ts hs)) (add-zero f);
-}
+module _ {ts : List Terms} {ms ns : List ℕ} {ys : List Layer} {i : ℕ} (g : Recorded ts ms ns ys i) where
+  pub record_next : (d : Terms) → i < length ts → (y : Layer)
+      → y ≡ layer_of (get_or ts i d) (get_or ms i 0) (get_or ns i 0) → Recorded ts ms ns (set ys i y) (i + 1)
+  record_next d h y is = record {
+    few = g.few;
+    places = length-set ys i y ∙ g.places;
+    made =
+        take_next ys (layers_with ts ms ns) i y y (omega (arith, g.few, g.places)) (omega (arith, with_length ts ms ns))
+        g.made (is ∙ sym (with_at ts ms ns i y d h));
+  }
 
-module _ {f k : ℕ} {ts : List Terms} {hs : List ℕ} {ys : List Layer} {i : ℕ} (g : Loading f k ts hs ys i) where
-  -- the record in the next place
-  pub load_record : (d : Terms) (y : Layer) → i < k
-      → y ≡ layer_of (get_or ts (f + i) d) (get_or hs (f + i) 0) (get_or hs (8 + (f + i)) 0)
-      → Loading f k ts hs (set ys i y) (i + 1)
-  load_record d y h is =
-      let ls = layers_held ts hs in
-      let own : y ≡ get_or ls (f + i) y =
-      is ∙ sym (held_at ts hs (f + i) y d (omega (arith, g.inside)) (omega (arith, g.eight))) in
-      let ahead : slice (f + i) (f + k) ls ≡ y ∷ slice (f + (i + 1)) (f + k) ls =
-      slice-cons (f + i) (f + k) ls y (omega arith) (omega (arith, g.inside, held-length ts hs))
-      ∙ (λ j. sym own j ∷ slice (sym (add-one (f + i)) j) (f + k) ls)
-      ∙ ap (λ (n : ℕ). y ∷ slice n (f + k) ls) (add_assoc f i 1) in
-      let one : take (i + 1) (set ys i y) ≡ take i ys ++ (y ∷ []) =
-      rw (add-one i) (take-suc-set ys i y (omega (arith, g.eight, g.places))) in
-      record {
-        within = omega arith;
-        eight = g.eight;
-        inside = g.inside;
-        places = length-set ys i y ∙ g.places;
-        rest =
-            ap (λ (l : List Layer). l ++ slice (f + (i + 1)) (f + k) ls) one
-            ∙ append_assoc (take i ys) (y ∷ []) (slice (f + (i + 1)) (f + k) ls)
-            ∙ ap (λ (l : List Layer). take i ys ++ l) (sym ahead)
-            ∙ g.rest;
-      }
-
-  pub load_ends : k ≤ i → take k ys ≡ slice f (f + k) (layers_held ts hs)
-  load_ends h =
-      let ls = layers_held ts hs in
-      let e : i ≡ k = omega (arith, g.within) in
-      sym (append-nil (take k ys))
-      ∙ ap (λ (l : List Layer). take k ys ++ l) (sym (slice_empty (f + k) ls))
-      ∙ (rw e at g.rest)
+  pub record_ends : length ts ≤ i → i ≤ length ts → take (length ts) ys ≡ layers_with ts ms ns
+  record_ends h within =
+      let e : i ≡ length ts = omega arith in
+      rw e at g.made ∙ take_all (length ts) (layers_with ts ms ns) (omega (arith, with_length ts ms ns))

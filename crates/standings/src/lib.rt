@@ -1,4 +1,4 @@
-// Standings: a year opened, a standing tested, a tier borne on lent numbers.
+// Standings: a year opened, a standing tested, a tier borne by a standing's own places.
 #![tactic(auto)]
 
 ghost use Rattle.std.specs.Prelude.{◌≡◌, true};
@@ -9,17 +9,14 @@ ghost use Rattle.year.specs.Standing.{fresh, standing_passes, open_of};
 use events::rule;
 use programme::contract::{PLACES, Programme};
 use programme::valid;
+use refusal::Refusal;
 use year::{Opening, Standing};
 
-pub mod held;
-pub mod terms;
 pub mod test;
 pub mod tier;
 
-// The refusal of a standing that breaks a rule.
-pub const NOT_A_STANDING: u64 = 8;
-
-// A fresh year's standing: nothing spent, no day run, no timed premium.
+// A fresh year's standing: nothing spent, no day run, no timed premium. A derived default says of the arrays no more
+// than that each element is a default.
 pub fn fresh() -> Standing
     ensures { result ≡ fresh }
 {
@@ -32,11 +29,12 @@ pub fn fresh() -> Standing
     }
 }
 
-// Opens a year: refusal 6 where no table text reads to the programme, and the fresh standing in any case.
+// Opens a year: refusal 6 where no table text reads to the programme, and the fresh standing in any case, which no
+// `Result` would hand out with a refusal.
 pub fn open(programme: Programme) -> Opening
     ensures { result ≡ open_of programme }
 {
-    if valid::holds(programme) {
+    if valid::holds(&programme) {
         return Opening {
             refusal: 0,
             number: 0,
@@ -44,7 +42,7 @@ pub fn open(programme: Programme) -> Opening
         };
     }
     Opening {
-        refusal: valid::NOT_A_PROGRAMME,
+        refusal: Refusal::NotAProgramme.number(),
         number: 0,
         standing: fresh(),
     }
@@ -52,21 +50,15 @@ pub fn open(programme: Programme) -> Opening
 
 // Whether a standing may be run on: no spent amount above its cap, no timed premium above the amount premium or on a
 // layer without time, none of these other than 0 for a missing layer, and no day over 366.
-pub fn passes(programme: Programme, standing: Standing) -> bool
-    requires { valid programme ≡ true }
-    ensures { result ≡ standing_passes (contracts_in programme) standing }
+pub fn passes(programme: &Programme, standing: &Standing) -> bool
+    requires { valid programme.now ≡ true }
+    ensures { result ≡ standing_passes (contracts_in programme.now) standing.now }
 {
     if rule::LAST_DAY < standing.day {
         return false;
     }
-    let risk = programme.risk;
-    let cat = programme.cat;
-    let risk_spent = standing.risk;
-    let cat_spent = standing.cat;
-    let risk_timed = standing.risk_timed;
-    let cat_timed = standing.cat_timed;
-    if test::tier_passes(risk, risk_spent, risk_timed) {
-        return test::tier_passes(cat, cat_spent, cat_timed);
-    }
-    false
+    let risk = &programme.risk.places[..programme.risk.count];
+    let cat = &programme.cat.places[..programme.cat.count];
+    test::tier_passes(risk, &standing.risk, &standing.risk_timed)
+        && test::tier_passes(cat, &standing.cat, &standing.cat_timed)
 }

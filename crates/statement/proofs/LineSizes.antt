@@ -1,6 +1,6 @@
 -- How many bytes a line has with its line feed, and a line that is only measured.
 -- Assumes nothing.
-use mathlib.Core.Path.{◌≡◌, refl, sym, ◌∙◌}
+use mathlib.Core.Path.{◌≡◌, refl, sym}
 use mathlib.Core.List.{List, [], ◌∷◌}
 use Prim.Native.Nat.{ℕ, suc, ◌+◌, ◌*◌, ◌^◌, ◌≤◌, ◌<◌}
 use native.Mathlib.Omega.{arith}
@@ -12,56 +12,54 @@ use Rattle.text.specs.Template.{capital, holes, filled}
 use Rattle.text.proofs.Lengths.{filled-size, digits-length, length-one}
 use Rattle.text.proofs.Pieces.{filled-append}
 use Rattle.year.specs.Statement.{event_template, amounts_numbers, added}
-use Rattle.statement.specs.declared.row.Kind.{Kind}
-use Rattle.statement.specs.declared.row.Kind.TheVariants.{Event, Treaty, Risk, Cat, Total}
-use Rattle.statement.specs.LineKinds.{template_of, width_of, own_bytes}
+use Rattle.statement.specs.declared.line.Tier.TheVariants.{Risk, Cat}
+use Rattle.statement.specs.declared.line.Line.{Line}
+use Rattle.statement.specs.declared.line.Line.TheVariants.{Event, Treaty, Layer, Total}
+use Rattle.statement.specs.LineKinds.{template_of, numbers_of, own_bytes}
 
--- a kind's template has as many numbers as its lines
-as_wide : (f : Kind) → holes (template_of f) ≡ width_of f
+-- a line's template has as many numbers as the line
+as_wide : (l : Line) → holes (template_of l) ≡ length (numbers_of l)
 unfolding holes capital
-as_wide Event = refl
-as_wide Treaty = refl
-as_wide Risk = refl
-as_wide Cat = refl
-as_wide Total = refl
+as_wide (Event d a) = refl
+as_wide (Treaty n c) = refl
+as_wide (Layer Risk i f) = refl
+as_wide (Layer Cat i f) = refl
+as_wide (Total a) = refl
 
--- and its other bytes are the kind's own, but for the line feed
-as_long : (f : Kind) → length (template_of f) + 1 ≡ width_of f + own_bytes f
-as_long Event = refl
-as_long Treaty = refl
-as_long Risk = refl
-as_long Cat = refl
-as_long Total = refl
+-- its bytes that stand for themselves
+abbrev own_of : Line → ℕ
+own_of l = own_bytes (template_of l) (length (numbers_of l))
+
+as_long : (l : Line) → length (template_of l) + 1 ≡ length (numbers_of l) + own_of l
+as_long (Event d a) = refl
+as_long (Treaty n c) = refl
+as_long (Layer Risk i f) = refl
+as_long (Layer Cat i f) = refl
+as_long (Total a) = refl
 
 -- a line with numbers of twenty digits has at most 200 bytes
-within_longest : (f : Kind) → own_bytes f + 20 * width_of f ≤ 200
-within_longest Event = omega arith
-within_longest Treaty = omega arith
-within_longest Risk = omega arith
-within_longest Cat = omega arith
-within_longest Total = omega arith
+within_longest : (l : Line) → own_of l + 20 * length (numbers_of l) ≤ 200
+within_longest (Event d a) = omega arith
+within_longest (Treaty n c) = omega arith
+within_longest (Layer Risk i f) = omega arith
+within_longest (Layer Cat i f) = omega arith
+within_longest (Total a) = omega arith
 
--- a line has few numbers
-pub wide-small : (f : Kind) (ns : List ℕ) → length ns ≡ width_of f → length ns < 2 ^ 32
-wide-small f ns wide = omega (arith, within_longest f)
+line-size : (l : Line) → own_of l + digits_in (numbers_of l) ≡ length (filled (template_of l) (numbers_of l) (10 ∷ []))
+line-size l =
+    rw (filled-append (template_of l) (numbers_of l) (10 ∷ []))
+    (omega (
+      arith,
+      length-append (filled (template_of l) (numbers_of l) []) (10 ∷ []),
+      filled-size (template_of l) (numbers_of l) (sym (as_wide l)),
+      as_long l,
+    ))
 
--- a line's own bytes and its digits, as they were counted
-module _ (f : Kind) (ns : List ℕ) (wide : length ns ≡ width_of f) {own r : ℕ} (e : own ≡ own_bytes f) where
-  pub line-size : r ≡ digits_in ns → own + r ≡ length (filled (template_of f) ns (10 ∷ []))
-  line-size h =
-      rw (filled-append (template_of f) ns (10 ∷ []))
-      (omega (
-        arith,
-        length-append (filled (template_of f) ns []) (10 ∷ []),
-        filled-size (template_of f) ns (wide ∙ sym (as_wide f)),
-        as_long f,
-      ))
-
-  pub line-short : r ≤ 20 * length ns → own + r ≤ 200
-  line-short h = omega (arith, within_longest f)
-
-  pub line-fits : r ≤ 20 * length ns → own + r < 2 ^ 64
-  line-fits h = omega (arith, line-short h)
+-- a line k's own bytes and its digits, as they were counted, are the bytes of that line
+pub sized : {l k : Line} → l ≡ k → {own r : ℕ} → own ≡ own_of k → r ≡ digits_in (numbers_of k)
+    → r ≤ 20 * length (numbers_of k)
+    → (own + r ≡ length (filled (template_of l) (numbers_of l) (10 ∷ []))) × (own + r ≤ 200)
+sized {k = k} is own digits few = rw is (rw (own, digits) (line-size k), omega (arith, within_longest k, own, few))
 
 -- what is put where there is no buffer is only measured
 no_buffer : (d : List ℕ) (at : ℕ) (w : List ℕ) → length d ≡ 0 → d ≡ sets d at w
@@ -79,8 +77,7 @@ module _ (n : ℕ) where
 
   idle-size : length idle ≡ 66 + length (digits n)
   idle-size =
-      let ns = n ∷ amounts_numbers (added []) in
-      omega (arith, line-size Event ns refl {r = digits_in ns} refl refl, length-one 0 (omega arith))
+      omega (arith, line-size (Event n (added [])), length-one 0 (omega arith))
 
   pub idle-measured : (d : List ℕ) (at : ℕ) {r : ℕ} → length d ≡ 0 → r ≡ length (digits n)
       → Put d at idle d (at + 66 + r)

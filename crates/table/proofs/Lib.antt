@@ -1,5 +1,6 @@
-pub mod RatePass
+pub mod LineForms
 pub mod LayerParts
+pub mod RatePass
 pub mod LinePass
 pub mod Tables
 pub mod Writes

@@ -2,21 +2,17 @@
 #![tactic(auto)]
 
 ghost use Rattle.std.specs.Prelude.{◌≡◌, length};
-ghost use Rattle.answer.specs.Outcome.{answer_of, buffer_after};
-ghost use Rattle.programme.specs.Contract.{no_contracts};
-ghost use Rattle.table_text.specs.Forms.{forms_of};
-ghost use Rattle.table_text.specs.Read.{refused_at, read_from, read_of};
+ghost use Rattle.answer.specs.Outcome.{answer_of, answered, buffer_after};
+ghost use Rattle.table_text.specs.Read.{reading_of, read_of};
 ghost use Rattle.table_text.specs.Write.{write_of};
-ghost use Rattle.table.specs.LineByLine.{read_places};
 
 use answer::Answer;
-use layer::terms::Terms;
-use programme::contract::{Kind, Layers, PLACES, Programme, Treaties};
+use programme::contract::Programme;
 use programme::rule::Before;
-use programme::{contract, valid};
-use table_text::{Form, Reading};
+use programme::valid;
+use refusal::{Refusal, Refused};
+use table_text::Reading;
 use text::line;
-use treaty::Treaty;
 
 pub mod form;
 pub mod print;
@@ -24,60 +20,15 @@ pub mod print;
 // The longest table text that is read, in bytes.
 pub const TABLE_BYTES: usize = 8192;
 
-// A text over it.
-const TABLE_TOO_LONG: u64 = 1;
-
-// A line that is none of the four forms, or has no line feed.
-const NOT_A_TABLE_FORM: u64 = 2;
-
-// A refusal, with the programme without contracts.
-fn refused(refusal: u64, line: u64) -> Reading
-    ensures { result ≡ refused_at refusal line }
+// The programme of a text, or the first line at fault. Line by line from place to place: a line's end is looked for
+// eight bytes at a time, which the library's `split` does not do.
+fn read_lines(text: &[u8]) -> Result<Programme, Refused>
+    ensures { reading_of result ≡ read_of text.now }
 {
-    Reading {
-        refusal,
-        line,
-        programme: Programme::empty(),
+    if TABLE_BYTES < text.len() {
+        return Err(Refusal::TableTooLong.at(0));
     }
-}
-
-// A success, from the places and how many of each are used.
-fn accepted(
-    treaties: [Treaty; PLACES],
-    risk: [Terms; PLACES],
-    cat: [Terms; PLACES],
-    counts: Before,
-) -> Reading
-    ensures { result ≡ read_places treaties risk cat counts }
-{
-    let programme = Programme {
-        treaties: Treaties {
-            places: treaties,
-            count: counts.treaties.count,
-        },
-        risk: Layers {
-            places: risk,
-            count: counts.risk.count,
-        },
-        cat: Layers {
-            places: cat,
-            count: counts.cat.count,
-        },
-    };
-    Reading {
-        refusal: 0,
-        line: 0,
-        programme,
-    }
-}
-
-// The contracts of a text's lines, or the first line at fault.
-fn read_lines(text: &[u8]) -> Reading
-    ensures { result ≡ read_from 1 no_contracts (forms_of text.now) }
-{
-    let mut treaties = [contract::no_treaty(); PLACES];
-    let mut risk = [contract::no_terms(); PLACES];
-    let mut cat = [contract::no_terms(); PLACES];
+    let mut programme = Programme::empty();
     let mut before = Before::first();
     let mut number: u64 = 0;
     let mut at = 0;
@@ -85,38 +36,43 @@ fn read_lines(text: &[u8]) -> Reading
         let end = line::end(text, at);
         number += 1;
         if end == text.len() {
-            return refused(NOT_A_TABLE_FORM, number);
+            return Err(Refusal::NotATableForm.at(number));
         }
-        let read = form::read(&text[at..end]);
-        let form = read.form;
-        let Form::Line(kind) = form else {
-            return refused(NOT_A_TABLE_FORM, number);
+        let Some(contract) = form::read(&text[at..end]) else {
+            return Err(Refusal::NotATableForm.at(number));
         };
-        let terms = read.terms;
-        let fault = before.fault(kind, terms);
-        if fault != 0 {
-            return refused(fault, number);
+        if let Err(refusal) = before.fault(&contract) {
+            return Err(refusal.at(number));
         }
+        programme.add(&contract);
+        before = before.after(&contract);
         at = end + 1;
-        let k = before.place(kind);
-        before = before.after(kind, terms);
-        match kind {
-            Kind::Proportional(treaty) => treaties[k] = treaty,
-            Kind::Risk => risk[k] = terms,
-            Kind::Cat => cat[k] = terms,
-        }
     }
-    accepted(treaties, risk, cat, before)
+    Ok(programme)
 }
 
 // Reads a table text.
 pub fn read(text: &[u8]) -> Reading
     ensures { result ≡ read_of text.now }
 {
-    if TABLE_BYTES < text.len() {
-        return refused(TABLE_TOO_LONG, 0);
+    read_lines(text).into()
+}
+
+// Writes a valid programme's table text and tells its length.
+fn write_text(programme: &Programme, buffer: &mut [u8]) -> Result<usize, Refused>
+    ensures { (answered result ≡ answer_of (write_of programme.now (length buffer.old)))
+        × (buffer.new
+        ≡ buffer_after (write_of programme.now (length buffer.old)) buffer.old) }
+{
+    if !valid::holds(programme) {
+        return Err(Refusal::NotAProgramme.at(0));
     }
-    read_lines(text)
+    let needed = print::put_table(&mut buffer[..0], programme);
+    if buffer.len() < needed {
+        return Err(Refusal::BufferTooShort.at(needed as u64));
+    }
+    print::put_table(buffer, programme);
+    Ok(needed)
 }
 
 // Writes a programme's table text into a buffer.
@@ -125,22 +81,5 @@ pub fn write(programme: Programme, buffer: &mut [u8]) -> Answer
         × (buffer.new
         ≡ buffer_after (write_of programme (length buffer.old)) buffer.old) }
 {
-    if valid::holds(programme) {
-        let needed = print::put_table(&mut buffer[..0], programme);
-        if buffer.len() < needed {
-            return Answer {
-                refusal: answer::BUFFER_TOO_SHORT,
-                number: needed as u64,
-            };
-        }
-        print::put_table(buffer, programme);
-        return Answer {
-            refusal: 0,
-            number: needed as u64,
-        };
-    }
-    Answer {
-        refusal: valid::NOT_A_PROGRAMME,
-        number: 0,
-    }
+    write_text(&programme, buffer).into()
 }

@@ -2,6 +2,7 @@
 -- Assumes nothing.
 use mathlib.Core.Path.{◌≡◌, refl}
 use mathlib.Core.List.{List, [], ◌∷◌, ◌++◌, map}
+use Rattle.std.specs.Prelude.{Some, None}
 use Prim.Native.Nat.{ℕ}
 use Prim.Native.String.{String}
 use lib.ListN.{replicate}
@@ -10,20 +11,19 @@ use Rattle.text.specs.Number.{printed_by, printed, digit_of, read_on, number}
 use Rattle.text.specs.Template.{capital, filled, matched, whole_of, line_numbers}
 use Rattle.text.specs.Lines.{lines_of, joined}
 use Rattle.treaty.specs.declared.Treaty.{Treaty}
-use Rattle.treaty.specs.Treaty.{quota_of}
 use Rattle.layer.specs.declared.terms.Terms.{Terms}
 use Rattle.layer.specs.Layer.{terms_of}
+use Rattle.treaty.specs.Treaty.{quota_of}
 use Rattle.answer.specs.Outcome.{refused, written, text_only, fitted, answer_of, buffer_after}
 use Rattle.programme.specs.declared.contract.Programme.{Programme}
-use Rattle.programme.specs.declared.contract.Kind.TheVariants as kind
-use Rattle.programme.specs.Contract.{Proportional, Risk, Cat, Contracts, no_contracts, no_treaty, no_terms, programme_of}
+use Rattle.programme.specs.declared.contract.Contract.TheVariants.{Proportional, Risk, Cat}
+use Rattle.programme.specs.Contract.{Contracts, no_contracts, no_treaty, no_terms, programme_of}
 use Rattle.programme.specs.Ranges.{outside, treaty_outside, rates_outside, terms_outside, treaty_not_zero, terms_not_zero}
 use Rattle.programme.specs.Rules.{treaty_fault, layer_fault}
 use Rattle.programme.specs.Valid.{valid_treaties, valid_layers, valid}
 use Rattle.programme.proofs.Corners.{zero_terms, nothing_held, all_contracts, all_held, eight_terms, with_risk}
 use Rattle.table_text.specs.declared.Reading.{Reading}
-use Rattle.table_text.specs.declared.Form.TheVariants as form
-use Rattle.table_text.specs.Forms.{Line, NoForm, form_read, rates_text, layer_numbers, tail_time, layer_terms}
+use Rattle.table_text.specs.Forms.{rates_text, layer_numbers, tail_time, layer_terms}
 use Rattle.table_text.specs.Forms.{kind_of, form_of_kind, form_of, treaty_line}
 use Rattle.table_text.specs.Read.{refused_at, read_as, read_from, read_of}
 use Rattle.table_text.specs.Write.{write_of}
@@ -173,14 +173,13 @@ only_time = record {
 }
 
 pub record Corners : Type 0 where
-  -- what a line that was read is: its kind, with a layer's terms from beside it
-  pub lines-read : map form_read
-      (record { form = form.Line (kind.Proportional (quota_of 2 4000 7 9)); terms = no_terms }
-      ∷ record { form = form.Line kind.Risk; terms = terms_of 7 1 2 1 3 (4 ∷ []) 5 0 }
-      ∷ record { form = form.Line kind.Cat; terms = terms_of 7 1 2 1 3 (4 ∷ []) 5 0 }
-      ∷ record { form = form.NoForm; terms = terms_of 7 1 2 1 3 (4 ∷ []) 5 0 } ∷ [])
-      ≡ Line (Proportional (quota_of 2 4000 7 9)) ∷ Line (Risk (terms_of 7 1 2 1 3 (4 ∷ []) 5 0))
-      ∷ Line (Cat (terms_of 7 1 2 1 3 (4 ∷ []) 5 0)) ∷ NoForm ∷ []
+  -- what a line is: a contract by its kind, the same terms in either tier, or no form
+  pub lines-read : map form_of
+      (bytes "(quota 2 (cede 4000) (capacity 7) (event 9))" ∷ bytes "(risk (band 7 1) (deduct 2) (back 1 3 4) (placed 5))"
+      ∷ bytes "(cat (band 7 1) (deduct 2) (back 1 3 4) (placed 5))" ∷ bytes "(risk (band 7 1) (deduct 2) (back 1 3) (placed 5))"
+      ∷ [])
+      ≡ Some (Proportional (quota_of 2 4000 7 9)) ∷ Some (Risk (terms_of 7 1 2 1 3 (4 ∷ []) 5 0))
+      ∷ Some (Cat (terms_of 7 1 2 1 3 (4 ∷ []) 5 0)) ∷ None ∷ []
   -- What reading answers, typed out to the places: a programme with its contracts in the first of eight ..
   pub answer-read : read_of all_bytes ≡ record { refusal = 0; line = 0; programme = all_held }
   pub answer-empty : read_of [] ≡ record { refusal = 0; line = 0; programme = nothing_held }

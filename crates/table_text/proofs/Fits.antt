@@ -4,7 +4,9 @@ use mathlib.Core.Path.{◌≡◌}
 use mathlib.Core.List.{map}
 use Rattle.lists.specs.Each.{Each}
 use Rattle.lists.proofs.Each.{each_append, each_map, each-chained}
-use Rattle.programme.specs.Contract.{Contract, Proportional, Risk, Cat, Contracts, contracts_in_order}
+use Rattle.programme.specs.declared.contract.Contract.{Contract}
+use Rattle.programme.specs.declared.contract.Contract.TheVariants.{Proportional, Risk, Cat}
+use Rattle.programme.specs.Contract.{Contracts, contracts_in_order}
 use Rattle.programme.specs.Ranges.{treaty_outside, terms_outside}
 use Rattle.programme.specs.Rules.{treaty_number, band_end}
 use Rattle.programme.specs.Valid.{treaty_passes, layer_passes}

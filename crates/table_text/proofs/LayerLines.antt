@@ -4,7 +4,7 @@
 use mathlib.Core.Path.{◌≡◌, refl, sym, ap, ◌∙◌}
 use mathlib.Core.Bool.{Bool, true, false, cond}
 use mathlib.Core.List.{List, [], ◌∷◌, ◌++◌}
-use mathlib.Core.Option.{Option, none, some}
+use Rattle.std.specs.Prelude.{Option, None, Some}
 use Prim.Native.Nat.{ℕ, zero, suc, ◌+◌, ◌*◌, ◌≤◌}
 use native.Mathlib.Omega.{arith}
 use lib.Dec.{eqb, ltb, lit≤}
@@ -184,58 +184,58 @@ module _ (l : Terms) (r : InRange l) where
 
 -- a layer's numbers, by what the beginning of its line finds
 module _ (begin s : List ℕ) where
-  pub begin_missing : matched [] begin s ≡ none → layer_numbers begin s ≡ none
+  pub begin_missing : matched [] begin s ≡ None → layer_numbers begin s ≡ None
   unfolding layer_numbers
   begin_missing e = simp (layer_numbers, e)
 
-  pub begin_found : (ns y : List ℕ) → matched [] begin s ≡ some (ns, y)
+  pub begin_found : (ns y : List ℕ) → matched [] begin s ≡ Some (ns, y)
       → layer_numbers begin s ≡ matched [] (layer_text begin (get_or ns 3 0)) s
   unfolding layer_numbers
   begin_found ns y e = simp (layer_numbers, e)
 
 -- what is left of a layer's line, by the tails
 module _ (s : List ℕ) where
-  pub tail-plain : (v : List ℕ) → line_numbers plain_tail s ≡ some v → tail_time s ≡ some 0
+  pub tail-plain : (v : List ℕ) → line_numbers plain_tail s ≡ Some v → tail_time s ≡ Some 0
   unfolding tail_time
   tail-plain v e = simp (tail_time, e)
 
-  module _ (e : line_numbers plain_tail s ≡ none) where
-    pub tail-timed : (v : List ℕ) → line_numbers time_tail s ≡ some v → tail_time s ≡ some 1
+  module _ (e : line_numbers plain_tail s ≡ None) where
+    pub tail-timed : (v : List ℕ) → line_numbers time_tail s ≡ Some v → tail_time s ≡ Some 1
     unfolding tail_time
     tail-timed v f = simp (tail_time, e, f)
 
-    pub tail-neither : line_numbers time_tail s ≡ none → tail_time s ≡ none
+    pub tail-neither : line_numbers time_tail s ≡ None → tail_time s ≡ None
     unfolding tail_time
     tail-neither f = simp (tail_time, e, f)
 
 -- what is read as a tail is that tail
-tail-read : (s : List ℕ) (w : ℕ) → tail_time s ≡ some w → s ≡ cond (eqb w 1) time_tail plain_tail
+pub tail-read : (s : List ℕ) (w : ℕ) → tail_time s ≡ Some w → s ≡ cond (eqb w 1) time_tail plain_tail
 unfolding filled capital
 tail-read s w e = by-plain (line_numbers plain_tail s) refl
   where
-    by-time : line_numbers plain_tail s ≡ none → (o : Option (List ℕ)) → line_numbers time_tail s ≡ o
+    by-time : line_numbers plain_tail s ≡ None → (o : Option (List ℕ)) → line_numbers time_tail s ≡ o
         → s ≡ cond (eqb w 1) time_tail plain_tail
-    by-time p none q =
-        let no : none ≡ some w = sym (tail-neither s p q) ∙ e in
+    by-time p None q =
+        let no : None ≡ Some w = sym (tail-neither s p q) ∙ e in
         let z : ◌≡◌ {A = ℕ} 0 1 = cc in absurd (omega arith)
-    by-time p (some v) q =
-        let same : some 1 ≡ some w = sym (tail-timed s p v q) ∙ e in
+    by-time p (Some v) q =
+        let same : Some 1 ≡ Some w = sym (tail-timed s p v q) ∙ e in
         let one : 1 ≡ w = cc in
         (line_read time_tail s v q).0 ∙ rw (← one)
 
     by-plain : (o : Option (List ℕ)) → line_numbers plain_tail s ≡ o → s ≡ cond (eqb w 1) time_tail plain_tail
-    by-plain none p = by-time p (line_numbers time_tail s) refl
-    by-plain (some v) p =
-        let same : some 0 ≡ some w = sym (tail-plain s v p) ∙ e in
+    by-plain None p = by-time p (line_numbers time_tail s) refl
+    by-plain (Some v) p =
+        let same : Some 0 ≡ Some w = sym (tail-plain s v p) ∙ e in
         let nought : 0 ≡ w = cc in
         (line_read plain_tail s v p).0 ∙ rw (← nought)
 
 -- the tail of a layer's line is read back
-tail-printed : (l : Terms) → l.time ≤ 1 → tail_time (tail_of l) ≡ some l.time
+tail-printed : (l : Terms) → l.time ≤ 1 → tail_time (tail_of l) ≡ Some l.time
 unfolding tail_time line_numbers whole_of matched capital
 tail-printed l h = by-time l.time h
   where
-    by-time : (w : ℕ) → w ≤ 1 → tail_time (cond (eqb w 1) time_tail plain_tail) ≡ some w
+    by-time : (w : ℕ) → w ≤ 1 → tail_time (cond (eqb w 1) time_tail plain_tail) ≡ Some w
     by-time zero h = refl
     by-time (suc zero) h = refl
     by-time (suc (suc w)) h = absurd (omega arith)
@@ -257,16 +257,16 @@ tail-short = of_tails (λ s. length s ≤ 8) (lit≤ tt) (lit≤ tt)
 
 -- a layer's terms, by its numbers and what is left
 module _ (begin s : List ℕ) where
-  pub numbers-missing : layer_numbers begin s ≡ none → layer_terms begin s ≡ none
+  pub numbers-missing : layer_numbers begin s ≡ None → layer_terms begin s ≡ None
   unfolding layer_terms
   numbers-missing e = simp (layer_terms, e)
 
-  module _ (v y : List ℕ) (e : layer_numbers begin s ≡ some (v, y)) where
-    pub tail-missing : tail_time y ≡ none → layer_terms begin s ≡ none
+  module _ (v y : List ℕ) (e : layer_numbers begin s ≡ Some (v, y)) where
+    pub tail-missing : tail_time y ≡ None → layer_terms begin s ≡ None
     unfolding layer_terms
     tail-missing f = simp (layer_terms, e, f)
 
-    pub terms-found : (w : ℕ) → tail_time y ≡ some w → layer_terms begin s ≡ some (terms_from v w)
+    pub terms-found : (w : ℕ) → tail_time y ≡ Some w → layer_terms begin s ≡ Some (terms_from v w)
     unfolding layer_terms
     terms-found w f = simp (layer_terms, e, f)
 
@@ -300,16 +300,16 @@ cat-begins = record {
 
 module _ (begin : List ℕ) (b : Beginning begin) where
   -- what is read of a line as a layer's form is that form with its own numbers and as many rates as its K
-  numbers-read : (s v y : List ℕ) → layer_numbers begin s ≡ some (v, y)
+  numbers-read : (s v y : List ℕ) → layer_numbers begin s ≡ Some (v, y)
       → (s ≡ filled (layer_text begin (get_or v 3 0)) v y) × (length v ≡ get_or v 3 0 + 6)
   numbers-read s v y e = by_begin (matched [] begin s) refl
     where
       by_begin : (o : Option (List ℕ × List ℕ)) → matched [] begin s ≡ o
           → (s ≡ filled (layer_text begin (get_or v 3 0)) v y) × (length v ≡ get_or v 3 0 + 6)
-      by_begin none q =
-          let no : ◌≡◌ {A = Option (List ℕ × List ℕ)} none (some (v, y)) = sym (begin_missing begin s q) ∙ e in
+      by_begin None q =
+          let no : ◌≡◌ {A = Option (List ℕ × List ℕ)} None (Some (v, y)) = sym (begin_missing begin s q) ∙ e in
           let z : ◌≡◌ {A = ℕ} 0 1 = cc in absurd (omega arith)
-      by_begin (some p) q =
+      by_begin (Some p) q =
           let k = get_or p.0 3 0 in
           let all = sym (begin_found begin s p.0 p.1 q) ∙ e in
           let after = sym (ap (onward [] (rest k)) q) ∙ sym (matched-parts begin (rest k) [] s) ∙ all in
@@ -327,22 +327,22 @@ module _ (begin : List ℕ) (b : Beginning begin) where
           )
 
   -- a line that is read as terms is their line, where its rates are at most twenty
-  pub layer-read : (s : List ℕ) (l : Terms) → layer_terms begin s ≡ some l → l.reinstatements ≤ 20
+  pub layer-read : (s : List ℕ) (l : Terms) → layer_terms begin s ≡ Some l → l.reinstatements ≤ 20
       → s ≡ terms_line begin l
   layer-read s l e h = by-numbers (layer_numbers begin s) refl
     where
       by-numbers : (o : Option (List ℕ × List ℕ)) → layer_numbers begin s ≡ o → s ≡ terms_line begin l
-      by-numbers none q =
-          let no : none ≡ some l = sym (numbers-missing begin s q) ∙ e in
+      by-numbers None q =
+          let no : None ≡ Some l = sym (numbers-missing begin s q) ∙ e in
           let z : ◌≡◌ {A = ℕ} 0 1 = cc in absurd (omega arith)
-      by-numbers (some p) q = by-tail (tail_time p.1) refl
+      by-numbers (Some p) q = by-tail (tail_time p.1) refl
         where
           by-tail : (o : Option ℕ) → tail_time p.1 ≡ o → s ≡ terms_line begin l
-          by-tail none t =
-              let no : none ≡ some l = sym (tail-missing begin s p.0 p.1 q t) ∙ e in
+          by-tail None t =
+              let no : None ≡ Some l = sym (tail-missing begin s p.0 p.1 q t) ∙ e in
               let z : ◌≡◌ {A = ℕ} 0 1 = cc in absurd (omega arith)
-          by-tail (some w) t =
-              let same : some (terms_from p.0 w) ≡ some l = sym (terms-found begin s p.0 p.1 q w t) ∙ e in
+          by-tail (Some w) t =
+              let same : Some (terms_from p.0 w) ≡ Some l = sym (terms-found begin s p.0 p.1 q w t) ∙ e in
               let these : terms_from p.0 w ≡ l = cc in
               let r = numbers-read s p.0 p.1 q in
               let few : get_or p.0 3 0 ≤ 20 = omega (arith, ap (λ (x : Terms). x.reinstatements) these) in
@@ -357,7 +357,7 @@ module _ (begin : List ℕ) (b : Beginning begin) where
     numbers-long = omega (arith, lasts-long l r, b.count-all l.reinstatements)
 
     -- the line of terms within their ranges is read as their numbers, and its tail is left
-    numbers-printed : layer_numbers begin (terms_line begin l) ≡ some (terms_numbers l, tail_of l)
+    numbers-printed : layer_numbers begin (terms_line begin l) ≡ Some (terms_numbers l, tail_of l)
     numbers-printed =
         let k = l.reinstatements in
         let w = filled (rest k) (lasts l) (tail_of l) in
@@ -373,11 +373,11 @@ module _ (begin : List ℕ) (b : Beginning begin) where
 
     -- and so as the terms
     pub layer-printed : rate_places (take l.reinstatements l.rates) ≡ l.rates
-        → layer_terms begin (terms_line begin l) ≡ some l
+        → layer_terms begin (terms_line begin l) ≡ Some l
     layer-printed e =
         terms-found begin (terms_line begin l) (terms_numbers l) (tail_of l) numbers-printed l.time
         (tail-printed l r.time)
-        ∙ ap some (terms-back l r e)
+        ∙ ap Some (terms-back l r e)
 
     -- it has at most 240 bytes
     pub layer-short : length (terms_line begin l) ≤ 240

@@ -4,7 +4,7 @@ use mathlib.Core.Path.{◌≡◌, refl, sym, ap, subst, ◌∙◌}
 use mathlib.Core.Bool.{Bool, true, false}
 use mathlib.Core.List.{List, [], ◌∷◌}
 use mathlib.Core.Logic.{◌⊎◌, inl, inr}
-use mathlib.Core.Option.{Option, none, some}
+use Rattle.std.specs.Prelude.{Option, None, Some, option_map}
 use Prim.Native.Nat.{ℕ, ◌+◌, ◌*◌, ◌≤◌}
 use native.Mathlib.Omega.{arith}
 use lib.Dec.{eqb, lit≤}
@@ -22,12 +22,13 @@ use Rattle.text.proofs.Feeds.{NoFeed, feedless, filled-no-feed}
 use Rattle.text.proofs.Ascii.{Byte, all-bytes, filled-bytes}
 use Rattle.treaty.specs.declared.Treaty.{Treaty}
 use Rattle.layer.specs.declared.terms.Terms.{Terms}
-use Rattle.programme.specs.Contract.{Contract, Proportional, Risk, Cat}
+use Rattle.programme.specs.declared.contract.Contract.{Contract}
+use Rattle.programme.specs.declared.contract.Contract.TheVariants.{Proportional, Risk, Cat}
 use Rattle.programme.specs.Ranges.{terms_outside}
 use Rattle.programme.proofs.Bounds.{QuotaInRange, SurplusInRange, TreatyInRange}
 use Rattle.programme.proofs.Bounds.{treaty_in_range, terms_in_range, rates-back}
-use Rattle.table_text.specs.Forms.{Line, NoForm, quota_text, surplus_text, risk_text, cat_text, plain_tail, time_tail}
-use Rattle.table_text.specs.Forms.{layer_text, quota_from, surplus_from, layer_terms, form_if, layer_form}
+use Rattle.table_text.specs.Forms.{quota_text, surplus_text, risk_text, cat_text, plain_tail, time_tail}
+use Rattle.table_text.specs.Forms.{layer_text, quota_from, surplus_from, layer_terms}
 use Rattle.table_text.specs.Forms.{kind_of, form_of_kind, form_of, quota_numbers, surplus_numbers, terms_numbers}
 use Rattle.table_text.specs.Forms.{treaty_line, tail_of, terms_line, line_of}
 use Rattle.table_text.proofs.Fits.{Fit}
@@ -42,7 +43,7 @@ record Shape (t : List ℕ) (n k : ℕ) (make : List ℕ → Contract) : Type 0 
   count : holes t ≡ n
   short : length t + 15 * n ≤ 160
   kind : (ns : List ℕ) → kind_of (filled t ns []) ≡ k
-  reads : (s : List ℕ) → form_of_kind k s ≡ form_if (numbers_by t s).found (make (numbers_by t s).values)
+  reads : (s : List ℕ) → form_of_kind k s ≡ option_map make (numbers_by t s)
   prints : (ns : List ℕ) → length ns ≡ n → line_of (make (eight ns)) ≡ filled t ns []
 
 -- a list of four numbers, by their places
@@ -94,7 +95,7 @@ surplus_shape = record {
 -- what holds of the lines of both
 module _ (t : List ℕ) (n k : ℕ) (make : List ℕ → Contract) (f : Shape t n k make) where
   module _ (ns : List ℕ) (l : length ns ≡ n) (z : Each Readable ns) where
-    shape_printed : form_of (line_of (make (eight ns))) ≡ Line (make (eight ns))
+    shape_printed : form_of (line_of (make (eight ns))) ≡ Some (make (eight ns))
     unfolding form_of
     shape_printed =
         let read = line-printed t ns f.separate (l ∙ sym f.count) z in
@@ -103,23 +104,22 @@ module _ (t : List ℕ) (n k : ℕ) (make : List ℕ → Contract) (f : Shape t 
     shape_short : length (line_of (make (eight ns))) ≤ 240
     shape_short = rw (f.prints ns l) (omega (arith, filled-length t ns z, f.count, f.short))
 
-  shape_read : (s : List ℕ) (x : Contract) → form_of_kind k s ≡ Line x → s ≡ line_of x
+  shape_read : (s : List ℕ) (x : Contract) → form_of_kind k s ≡ Some x → s ≡ line_of x
   shape_read s x e = by-numbers (line_numbers t s) refl (sym (f.reads s) ∙ e)
     where
       by-numbers : (o : Option (List ℕ)) → line_numbers t s ≡ o
-          → form_if (numbers_by t s).found (make (numbers_by t s).values) ≡ Line x → s ≡ line_of x
-      by-numbers none q h = let z : ◌≡◌ {A = ℕ} 0 1 = cc (rw q at h) in absurd (omega arith)
-      by-numbers (some ns) q h =
+          → option_map make (numbers_by t s) ≡ Some x → s ≡ line_of x
+      by-numbers None q h = cc (rw q at h)
+      by-numbers (Some ns) q h =
           let r = line_read t s ns q in
-          let same : Line (make (eight ns)) ≡ Line x = rw q at h in
-          let made : make (eight ns) ≡ x = cc in
+          let made : make (eight ns) ≡ x = cc (rw q at h) in
           r.0 ∙ sym (f.prints ns (r.1 ∙ f.count)) ∙ ap line_of made
 
 -- A tier: the beginning of its lines, their kind k, and the contract that terms make.
 record Tier (begin : List ℕ) (k : ℕ) (make : Terms → Contract) : Type 0 where
   begins : Beginning begin
   kind : (n : ℕ) (ns tail : List ℕ) → kind_of (filled (layer_text begin n) ns tail) ≡ k
-  reads : (s : List ℕ) → form_of_kind k s ≡ layer_form make (layer_terms begin s)
+  reads : (s : List ℕ) → form_of_kind k s ≡ option_map make (layer_terms begin s)
   prints : (l : Terms) → line_of (make l) ≡ terms_line begin l
   fits : (l : Terms) → Fit (make l) → terms_outside l ≡ 0
 
@@ -146,7 +146,7 @@ cat-tier = record {
 -- what holds of the lines of both tiers
 module _ (begin : List ℕ) (k : ℕ) (make : Terms → Contract) (f : Tier begin k make) where
   module _ (l : Terms) (z : terms_outside l ≡ 0) where
-    tier-printed : form_of (line_of (make l)) ≡ Line (make l)
+    tier-printed : form_of (line_of (make l)) ≡ Some (make l)
     unfolding form_of
     tier-printed =
         rw (
@@ -159,15 +159,14 @@ module _ (begin : List ℕ) (k : ℕ) (make : Terms → Contract) (f : Tier begi
     tier-short : length (line_of (make l)) ≤ 240
     tier-short = rw (f.prints l) (layer-short begin f.begins l (terms_in_range l z))
 
-  tier-read : (s : List ℕ) (x : Contract) → form_of_kind k s ≡ Line x → Fit x → s ≡ line_of x
+  tier-read : (s : List ℕ) (x : Contract) → form_of_kind k s ≡ Some x → Fit x → s ≡ line_of x
   tier-read s x e z = by-terms (layer_terms begin s) refl (sym (f.reads s) ∙ e)
     where
-      by-terms : (o : Option Terms) → layer_terms begin s ≡ o → layer_form make (layer_terms begin s) ≡ Line x
+      by-terms : (o : Option Terms) → layer_terms begin s ≡ o → option_map make (layer_terms begin s) ≡ Some x
           → s ≡ line_of x
-      by-terms none q h = let z : ◌≡◌ {A = ℕ} 0 1 = cc (rw q at h) in absurd (omega arith)
-      by-terms (some l) q h =
-          let same : Line (make l) ≡ Line x = rw q at h in
-          let made : make l ≡ x = cc in
+      by-terms None q h = cc (rw q at h)
+      by-terms (Some l) q h =
+          let made : make l ≡ x = cc (rw q at h) in
           let few = (terms_in_range l (f.fits l (rw (← made) at z))).reinstatements in
           layer-read begin f.begins s l q few ∙ sym (f.prints l) ∙ ap line_of made
 
@@ -224,16 +223,16 @@ of_contracts P f g (Risk l) z = g _ _ _ risk-tier l z
 of_contracts P f g (Cat l) z = g _ _ _ cat-tier l z
 
 -- the line of a contract within its ranges is read as the contract
-pub form-printed : (x : Contract) → Fit x → form_of (line_of x) ≡ Line x
-form-printed = of_contracts (λ x. form_of (line_of x) ≡ Line x) shape_printed tier-printed
+pub form-printed : (x : Contract) → Fit x → form_of (line_of x) ≡ Some x
+form-printed = of_contracts (λ x. form_of (line_of x) ≡ Some x) shape_printed tier-printed
 
 -- A line that is read as a contract is the contract's line. Of more than twenty rates its terms keep twenty, and it is
 -- not within its ranges.
-pub form-read : (s : List ℕ) (x : Contract) → form_of s ≡ Line x → Fit x → s ≡ line_of x
+pub form-read : (s : List ℕ) (x : Contract) → form_of s ≡ Some x → Fit x → s ≡ line_of x
 unfolding form_of
 form-read s x e z = by_kind (kind_of s) e
   where
-    by_kind : (k : ℕ) → form_of_kind k s ≡ Line x → s ≡ line_of x
+    by_kind : (k : ℕ) → form_of_kind k s ≡ Some x → s ≡ line_of x
     by_kind k e =
         by-eq k 1
         (λ h. shape_read _ _ _ _ quota_shape s x (rw h at e))
@@ -243,8 +242,7 @@ form-read s x e z = by_kind (kind_of s) e
         (λ h. tier-read _ _ _ risk-tier s x (rw h at e) z)
         (λ r. by-eq k 4
         (λ h. tier-read _ _ _ cat-tier s x (rw h at e) z)
-        (λ c. let no : NoForm ≡ Line x = kind-other s k q t r c ∙ e in
-        let z : ◌≡◌ {A = ℕ} 0 1 = cc in absurd (omega arith)))))
+        (λ c. cc (kind-other s k q t r c)))))
 
 -- what holds of every byte that the templates print, with any number of rates, and of both tails holds of every byte
 -- of a contract's line

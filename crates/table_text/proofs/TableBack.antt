@@ -1,9 +1,9 @@
 -- The table of lawful contracts is read back as them.
 -- Assumes nothing.
-use mathlib.Core.Path.{◌≡◌, refl, sym, ap, ◌∙◌}
+use mathlib.Core.Path.{◌≡◌, refl, ap, ◌∙◌}
 use mathlib.Core.Bool.{Bool, true}
 use mathlib.Core.List.{List, [], ◌∷◌, ◌++◌, map, map-append, append_assoc, append-nil}
-use mathlib.Core.Option.{some}
+use Rattle.std.specs.Prelude.{Option, Some}
 use Prim.Native.Nat.{ℕ, ◌+◌, ◌*◌, ◌≤◌, ◌<◌}
 use native.Mathlib.Omega.{arith}
 use borrow.Author.Tests.{le-ltb}
@@ -16,14 +16,15 @@ use Rattle.text.specs.Lines.{joined}
 use Rattle.text.proofs.Feeds.{NoFeed, lines-joined}
 use Rattle.treaty.specs.declared.Treaty.{Treaty}
 use Rattle.layer.specs.declared.terms.Terms.{Terms}
-use Rattle.programme.specs.Contract.{Contract, Proportional, Risk, Cat}
+use Rattle.programme.specs.declared.contract.Contract.{Contract}
+use Rattle.programme.specs.declared.contract.Contract.TheVariants.{Proportional, Risk, Cat}
 use Rattle.programme.specs.Contract.{Contracts, no_contracts, with_contract, contracts_in_order, programme_of}
 use Rattle.programme.specs.Rules.{treaty_number, band_end, last_of, treaty_fault, layer_fault, fault_of}
 use Rattle.programme.specs.Valid.{treaty_passes, layer_passes}
 use Rattle.programme.proofs.Faults.{treaty-fine, layer-fine}
 use Rattle.programme.proofs.Lawful.{Lawful, treaty-passed, layer-passed, at-most-eight}
 use Rattle.table_text.specs.declared.Reading.{Reading}
-use Rattle.table_text.specs.Forms.{Form, Line, line_form, forms_of, line_of, table_of}
+use Rattle.table_text.specs.Forms.{line_form, forms_of, line_of, table_of}
 use Rattle.table_text.specs.Read.{read_as, read_from, read_of}
 use Rattle.table_text.proofs.Fits.{Fit, each-fit}
 use Rattle.table_text.proofs.Lines.{form-printed, line-no-feed, line-short}
@@ -34,12 +35,12 @@ module _ {A : Type 0} (passes : ℕ → A → Bool) (figure : A → ℕ) (state 
     (fine : (done : List A) (x : A) → length done < 8 → passes (last_by figure 0 done) x ≡ true
     → fault_of (state done) (form x) ≡ 0)
     (enters : (done : List A) (x : A) → with_contract (state done) (form x) ≡ state (done ++ (x ∷ [])))
-    (rest : List Form) (r : Reading) where
+    (rest : List (Option Contract)) (r : Reading) where
   -- those done and those ahead, where the lines after them give r
   kind-read : (done xs : List A) → length done + length xs ≤ 8
       → chained passes figure (last_by figure 0 done) xs ≡ true
       → ((w : ℕ) → read_from w (state (done ++ xs)) rest ≡ r)
-      → (w : ℕ) → read_from w (state done) (map Line (map form xs) ++ rest) ≡ r
+      → (w : ℕ) → read_from w (state done) (map Some (map form xs) ++ rest) ≡ r
   unfolding read_from
   kind-read done [] l e k w = rw append-nil at (k w)
   kind-read done (x ∷ xs) l e k w =
@@ -51,7 +52,7 @@ module _ {A : Type 0} (passes : ℕ → A → Bool) (figure : A → ℕ) (state 
 
   kind-back : (xs : List A) → length xs ≤ 8 → chained passes figure 0 xs ≡ true
       → ((w : ℕ) → read_from w (state xs) rest ≡ r)
-      → (w : ℕ) → read_from w (state []) (map Line (map form xs) ++ rest) ≡ r
+      → (w : ℕ) → read_from w (state []) (map Some (map form xs) ++ rest) ≡ r
   kind-back xs l e k = kind-read [] xs (omega arith) e k
 
 -- a layer after the others of its tier
@@ -59,21 +60,21 @@ layer-passing : (ls : List Terms) (l : Terms) → length ls < 8 → layer_passes
     → layer_fault 0 (last_of band_end ls) l ≡ 0
 layer-passing ls l h e =
     let p = layer-passed (last_by band_end 0 ls) l e in
-    sym (layer-fine 0 (last_of band_end ls) l _ refl (omega (arith, p.0)) (omega arith) h p.1)
+    layer-fine 0 (last_of band_end ls) l (record { inside = p.0; order = refl; few = h; attachment = p.1 })
 
 treaty-passing : (ts : List Treaty) (t : Treaty) → treaty_passes (last_by treaty_number 0 ts) t ≡ true
     → treaty_fault 0 (last_by treaty_number 0 ts) t ≡ 0
 treaty-passing ts t e =
     let p = treaty-passed (last_by treaty_number 0 ts) t e in
-    sym (treaty-fine 0 (last_by treaty_number 0 ts) t _ refl (omega (arith, p.0)) (omega arith) p.1)
+    treaty-fine 0 (last_by treaty_number 0 ts) t (record { inside = p.0; order = refl; number = p.1 })
 
 -- the forms of contracts kind by kind, and the three kinds read in turn
-kinds : Contracts → List Form
+kinds : Contracts → List (Option Contract)
 kinds c =
-    map Line (map Proportional c.treaties)
-    ++ (map Line (map Risk c.risk) ++ (map Line (map Cat c.cat) ++ []))
+    map Some (map Proportional c.treaties)
+    ++ (map Some (map Risk c.risk) ++ (map Some (map Cat c.cat) ++ []))
 
-forms-kinds : (c : Contracts) → map Line (contracts_in_order c) ≡ kinds c
+forms-kinds : (c : Contracts) → map Some (contracts_in_order c) ≡ kinds c
 unfolding kinds
 forms-kinds c = simp (map-append, append-nil)
 
@@ -89,7 +90,7 @@ kinds-back c g =
     1
 
 -- the lines of contracts within their ranges: their forms, and the length of the text
-forms-printed : (xs : List Contract) → Each Fit xs → map line_form (map some (map line_of xs)) ≡ map Line xs
+forms-printed : (xs : List Contract) → Each Fit xs → map line_form (map Some (map line_of xs)) ≡ map Some xs
 forms-printed [] z = refl
 forms-printed (x ∷ xs) z = rw (form-printed x z.0, forms-printed xs z.1)
 
@@ -99,7 +100,7 @@ joined-short (x ∷ xs) z =
     omega (arith, length-append (line_of x) (10 ∷ joined (map line_of xs)), line-short x z.0, joined-short xs z.1)
 
 module _ (c : Contracts) (g : Lawful c) where
-  table-forms : forms_of (table_of c) ≡ map Line (contracts_in_order c)
+  table-forms : forms_of (table_of c) ≡ map Some (contracts_in_order c)
   table-forms =
       ap (map line_form)
       (lines-joined (map line_of (contracts_in_order c)) (each_map NoFeed line_of (contracts_in_order c) (each_of _ line-no-feed (contracts_in_order c))))

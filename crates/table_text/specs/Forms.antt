@@ -1,27 +1,17 @@
 -- Document 01, The table text, with document 02's Q-2 and Q-4: the four forms of a table's lines, read and printed.
 -- Assumes nothing.
-use Rattle.std.specs.Prelude.{Bool, true, false, cond, List, [], ◌∷◌, ◌++◌, map, ℕ, zero, suc, ◌+◌, eqb, take, drop, get_or}
-use Rattle.std.proofs.Math.Option.{Option, none, some}
+use Rattle.std.specs.Prelude.{true, false, cond, Option, None, Some, option_map, List, [], ◌∷◌, ◌++◌, map}
+use Rattle.std.specs.Prelude.{ℕ, zero, suc, ◌+◌, eqb, take, drop, get_or}
 use Rattle.text.specs.Bytes.{bytes}
 use Rattle.text.specs.Template.{filled, matched, line_numbers, numbers_by}
 use Rattle.text.specs.Lines.{lines_of, joined}
-use Rattle.text.specs.declared.template.Numbers.{Numbers}
 use Rattle.treaty.specs.declared.Treaty.{Treaty}
 use Rattle.treaty.specs.Treaty.{quota_of, surplus_of}
 use Rattle.layer.specs.declared.terms.Terms.{Terms}
 use Rattle.layer.specs.Layer.{terms_of, is_timed}
-use Rattle.programme.specs.Contract.{Contract, Proportional, Risk, Cat, contract_of, Contracts, contracts_in_order}
-use Rattle.table_text.specs.declared.LineRead.{LineRead}
-use Rattle.table_text.specs.declared.Form.TheVariants as form
-
--- what a line is
-pub data Form : Type 0 where
-  Line : Contract → Form
-  NoForm : Form
-
--- what a line that was read is
-abbrev pub form_read : LineRead → Form
-form_read r = elim r.form [ form.Line k ↦ Line (contract_of k r.terms) | form.NoForm ↦ NoForm ]
+use Rattle.programme.specs.declared.contract.Contract.{Contract}
+use Rattle.programme.specs.declared.contract.Contract.TheVariants.{Proportional, Risk, Cat}
+use Rattle.programme.specs.Contract.{Contracts, contracts_in_order}
 
 -- the templates, as document 01 prints the forms
 abbrev pub quota_text : List ℕ
@@ -75,38 +65,30 @@ terms_from v w =
 -- a layer's numbers in a line that is its form with as many rates as the line's own K, and what is left of the line
 unfoldable pub layer_numbers : List ℕ → List ℕ → Option (List ℕ × List ℕ)
 layer_numbers begin s =
-    elim (matched [] begin s) [ none ↦ none | some p ↦ matched [] (layer_text begin (get_or p.0 3 0)) s ]
+    elim (matched [] begin s) [ None ↦ None | Some p ↦ matched [] (layer_text begin (get_or p.0 3 0)) s ]
 
 -- what is left of the line is a tail: 0 for the one without (time), 1 for the one with it
 unfoldable pub tail_time : List ℕ → Option ℕ
 tail_time s =
     elim (line_numbers plain_tail s) [
-      | some v ↦ some 0
-      | none ↦ elim (line_numbers time_tail s) [ some v ↦ some 1 | none ↦ none ]
+      | Some v ↦ Some 0
+      | None ↦ elim (line_numbers time_tail s) [ Some v ↦ Some 1 | None ↦ None ]
     ]
 
 -- a layer's terms in a line that is its form
 unfoldable pub layer_terms : List ℕ → List ℕ → Option Terms
 layer_terms begin s =
     elim (layer_numbers begin s) [
-      | none ↦ none
-      | some p ↦ elim (tail_time p.1) [ none ↦ none | some w ↦ some (terms_from p.0 w) ]
+      | None ↦ None
+      | Some p ↦ elim (tail_time p.1) [ None ↦ None | Some w ↦ Some (terms_from p.0 w) ]
     ]
 
--- what a line is where a template finds its numbers in it, and no form where it does not
-abbrev pub form_if : Bool → Contract → Form
-form_if true c = Line c
-form_if false c = NoForm
+-- what a line is where a treaty's template finds its numbers in it; None is no form
+abbrev pub quota_form : Option (List ℕ) → Option Contract
+quota_form = option_map (λ v. Proportional (quota_from v))
 
-abbrev pub quota_form : Numbers → Form
-quota_form n = form_if n.found (Proportional (quota_from n.values))
-
-abbrev pub surplus_form : Numbers → Form
-surplus_form n = form_if n.found (Proportional (surplus_from n.values))
-
-abbrev pub layer_form : (Terms → Contract) → Option Terms → Form
-layer_form tier none = NoForm
-layer_form tier (some t) = Line (tier t)
+abbrev pub surplus_form : Option (List ℕ) → Option Contract
+surplus_form = option_map (λ v. Proportional (surplus_from v))
 
 -- "A line's first word settles its kind": 1 quota, 2 surplus, 3 risk, 4 cat, the only form that a line with this
 -- letter after the bracket (40) can be; 0 where it can be none.
@@ -117,23 +99,23 @@ unfoldable pub kind_of : List ℕ → ℕ
 kind_of s = cond (eqb (get_or s 0 0) 40) (letter_kind (get_or s 1 0)) 0
 
 -- what a line of a kind is
-unfoldable pub form_of_kind : ℕ → List ℕ → Form
+unfoldable pub form_of_kind : ℕ → List ℕ → Option Contract
 form_of_kind k s =
     cond (eqb k 1) (quota_form (numbers_by quota_text s))
     (cond (eqb k 2) (surplus_form (numbers_by surplus_text s))
-    (cond (eqb k 3) (layer_form Risk (layer_terms risk_text s))
-    (cond (eqb k 4) (layer_form Cat (layer_terms cat_text s)) NoForm)))
+    (cond (eqb k 3) (option_map Risk (layer_terms risk_text s))
+    (cond (eqb k 4) (option_map Cat (layer_terms cat_text s)) None)))
 
--- what a line is
-unfoldable pub form_of : List ℕ → Form
+-- what a line is: a contract, or none of the four forms
+unfoldable pub form_of : List ℕ → Option Contract
 form_of s = form_of_kind (kind_of s) s
 
 -- the forms of a text's lines; bytes after the last line feed are no form
-abbrev pub line_form : Option (List ℕ) → Form
-line_form none = NoForm
-line_form (some l) = form_of l
+abbrev pub line_form : Option (List ℕ) → Option Contract
+line_form None = None
+line_form (Some l) = form_of l
 
-abbrev pub forms_of : List ℕ → List Form
+abbrev pub forms_of : List ℕ → List (Option Contract)
 forms_of s = map line_form (lines_of s)
 
 -- a contract's numbers in its form's order

@@ -13,7 +13,8 @@ use layer::terms::Terms;
 use layer::tier;
 use treaty::{Loss, Treaty};
 
-// Bytes to standard output. What cannot be written there is let go: the program goes on.
+// Bytes to standard output. What cannot be written there is let go: the program goes on. No clause can tell
+// what is printed, so that a crate for these lines would promise nothing: each program has its own.
 fn words(rt: &impl Print, text: &[u8]) {
     let _ = rt.write_all(text);
 }
@@ -232,10 +233,8 @@ fn recoveries(rt: &impl Print, name: &[u8], layer: Layer, subjects: &[u64])
 {
     words(rt, name);
     let mut now = layer;
-    let mut i = 0;
-    while i < subjects.len() {
-        now = recovery(rt, now, subjects[i]);
-        i += 1;
+    for subject in subjects {
+        now = recovery(rt, now, *subject);
     }
     words(rt, b" year");
     year(rt, now);
@@ -325,8 +324,7 @@ fn rate_figures(rt: &impl Print) {
 fn share(day: u64) -> u64
     ensures { result ≤ 10000 }
 {
-    let shares = scale::built_in();
-    scale::share_on(&shares, day)
+    scale::share_on(&scale::built_in(), day)
 }
 
 // The record after a subject amount on a day, whose premium is shown.
@@ -346,10 +344,8 @@ fn premiums(rt: &impl Print, name: &[u8], layer: Layer, subject: u64, days: &[u6
 {
     words(rt, name);
     let mut now = layer;
-    let mut i = 0;
-    while i < days.len() {
-        now = premium(rt, now, subject, days[i]);
-        i += 1;
+    for day in days {
+        now = premium(rt, now, subject, *day);
     }
     words(rt, b" year");
     year(rt, now);
@@ -380,11 +376,7 @@ fn time_figures(rt: &impl Print) {
 
 // Whether shares are a scale: 1 for yes, 0 for no.
 fn tested(rt: &impl Print, name: &[u8], shares: &[u64]) {
-    if scale::passes(shares) {
-        line(rt, name, 1);
-    } else {
-        line(rt, name, 0);
-    }
+    line(rt, name, u64::from(scale::passes(shares)));
 }
 
 // 7,201 on every day, and one day changed at a time.
@@ -410,10 +402,7 @@ fn cat_layers() -> [Layer; tier::PLACES]
     let first = plain(25000000, 75000000, 75000000, 10000);
     let second = layer(100000000, 150000000, 0, 1, 75000000, 5000, 0, 0, 8000, 0);
     let third = layer(250000000, 150000000, 0, 1, 30000000, 10000, 0, 0, 7200, 0);
-    let mut layers = [first; tier::PLACES];
-    layers[1] = second;
-    layers[2] = third;
-    layers
+    [first, second, third, first, first, first, first, first]
 }
 
 // One subject to every layer of a tier: recoveries and premiums, added.

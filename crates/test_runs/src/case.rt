@@ -10,25 +10,9 @@ use engine::run;
 use programme::contract::Programme;
 use year::Standing;
 
-// 1 for a byte that is not as lent.
-fn other(byte: u8) -> u64
-    ensures { result ≤ 1 }
-{
-    if byte == b'#' {
-        return 0;
-    }
-    1
-}
-
 // How many bytes are not as lent, those past the buffer included.
-fn changed(bytes: &[u8]) -> u64 {
-    let mut count: u64 = 0;
-    let mut i: usize = 0;
-    while i < bytes.len() {
-        count += other(bytes[i]);
-        i += 1;
-    }
-    count
+fn changed(bytes: &[u8]) -> usize {
+    bytes.iter().filter(|byte| **byte != b'#').count()
 }
 
 // Shows as many bytes as a success says that it wrote.
@@ -60,8 +44,8 @@ fn ran(
     number(rt, answer.refusal);
     number(rt, answer.number);
     words(rt, b" changed");
-    number(rt, changed(bytes));
-    show::standing(rt, after);
+    number(rt, changed(bytes) as u64);
+    show::standing(rt, &after);
     words(rt, b"\n");
     statement(rt, answer, bytes);
     after
@@ -74,27 +58,13 @@ fn lent_bytes() -> [u8; 65537]
     [b'#'; 65537]
 }
 
-// The byte at a place of a text that is repeated without end; `long` has the bytes before that place.
-fn byte_at(text: &[u8], long: &[u8; 65537], i: usize) -> u8
-    requires { i < 65537 }
-{
-    if i < text.len() {
-        return text[i];
-    }
-    let before = i - text.len();
-    long[before]
-}
-
-// The first 65,537 bytes of a text that is repeated without end.
+// The first 65,537 bytes of a text that is repeated without end; of an empty one, zeros.
 fn repeated(text: &[u8]) -> [u8; 65537]
     ensures { 65537 ≡ length result }
 {
     let mut long = [0u8; 65537];
-    let mut i: usize = 0;
-    while i < 65537 {
-        let byte = byte_at(text, &long, i);
-        long[i] = byte;
-        i += 1;
+    for (place, byte) in long.iter_mut().zip(text.iter().cycle()) {
+        *place = *byte;
     }
     long
 }
@@ -105,11 +75,7 @@ pub fn marked(programme: Programme, mark: u64) -> Programme {
         return programme;
     }
     let mut changed = programme;
-    let mut cat = programme.cat;
-    let mut place = cat.places[7];
-    place.attachment = mark;
-    cat.places[7] = place;
-    changed.cat = cat;
+    changed.cat.places[7].attachment = mark;
     changed
 }
 
@@ -117,10 +83,7 @@ pub fn marked(programme: Programme, mark: u64) -> Programme {
 fn size_of(n: u64) -> usize
     ensures { result ≤ 65537 }
 {
-    if n <= 65537 {
-        return n as usize;
-    }
-    65537
+    n.min(65537) as usize
 }
 
 // Runs a text under a programme from a standing, with a buffer of `room` bytes. Where `size` is not 0 the text is

@@ -9,7 +9,6 @@ ghost use Rattle.std.specs.Prelude.{◌≤◌, length};
 use crate::case::{case, marked};
 use crate::show::{number, words};
 use text::line;
-use text::number::Number;
 use year::Standing;
 
 // The end of the field that begins at a place.
@@ -35,13 +34,11 @@ fn after(case: &[u8], bar: usize) -> usize
 fn numbers(field: &[u8]) -> [u64; 33] {
     let mut values = [0u64; 33];
     let mut at: usize = 0;
-    let mut k: usize = 0;
-    while k < 33 {
-        let Number::Value(value, next) = text::number::read(field, at) else {
+    for place in values.iter_mut() {
+        let Some((value, next)) = text::number::read(field, at) else {
             return values;
         };
-        values[k] = value;
-        k += 1;
+        *place = value;
         if field.len() <= next {
             return values;
         }
@@ -64,13 +61,11 @@ fn typed(field: &[u8]) -> Standing {
 
 // The standing that a field says.
 fn lent(field: &[u8], opened: Standing, before: Standing) -> Standing {
-    if field.len() == 0 {
-        return opened;
+    match field {
+        [] => opened,
+        [b'=', ..] => before,
+        _ => typed(field),
     }
-    if field[0] == b'=' {
-        return before;
-    }
-    typed(field)
 }
 
 // Opens a year, runs the case, shows both, and returns the standing after it.

@@ -1,7 +1,8 @@
 // Words, numbers and standings on standard output.
 use year::Standing;
 
-// What cannot be written is let go: the program goes on.
+// What cannot be written is let go: the program goes on. No clause can tell
+// what is printed, so that a crate for these lines would promise nothing: each program has its own.
 pub fn words(rt: &impl Print, text: &[u8]) {
     let _ = rt.write_all(text);
 }
@@ -11,28 +12,22 @@ pub fn number(rt: &impl Print, n: u64) {
     let _ = rt.print(n);
 }
 
-fn eight(rt: &impl Print, numbers: [u64; 8]) {
-    let mut i: usize = 0;
-    while i < 8 {
-        number(rt, numbers[i]);
-        i += 1;
+fn numbers(rt: &impl Print, numbers: &[u64]) {
+    for n in numbers {
+        number(rt, *n);
     }
 }
 
 // All thirty-three numbers, so that a missing layer's are seen too.
-pub fn standing(rt: &impl Print, standing: Standing) {
-    let risk = standing.risk;
-    let cat = standing.cat;
-    let risk_timed = standing.risk_timed;
-    let cat_timed = standing.cat_timed;
+pub fn standing(rt: &impl Print, standing: &Standing) {
     words(rt, b" day");
     number(rt, standing.day);
     words(rt, b" risk");
-    eight(rt, risk);
+    numbers(rt, &standing.risk);
     words(rt, b" cat");
-    eight(rt, cat);
+    numbers(rt, &standing.cat);
     words(rt, b" timed risk");
-    eight(rt, risk_timed);
+    numbers(rt, &standing.risk_timed);
     words(rt, b" cat");
-    eight(rt, cat_timed);
+    numbers(rt, &standing.cat_timed);
 }

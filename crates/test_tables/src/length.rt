@@ -10,28 +10,20 @@ fn begun(table: &[u8], byte: u8) -> [u8; 8193]
     ensures { 8193 ≡ length result }
 {
     let mut text = [byte; 8193];
-    let mut i: usize = 0;
-    while i < table.len() {
-        text[i] = table[i];
-        i += 1;
-    }
+    text[..table.len()].copy_from_slice(table);
     text
 }
 
 // A text that begins with a table and goes on with a task's byte up to its size.
 pub fn filled(rt: &impl Print, name: &[u8], table: &[u8], task: Task) {
-    let v = task.numbers;
-    let byte = v[0];
-    let size = v[1] as usize;
-    if 255 < byte {
+    let [byte, size, ..] = task.numbers;
+    let size = size as usize;
+    let Ok(byte) = u8::try_from(byte) else {
+        return;
+    };
+    if 8193 < size || 8193 < table.len() {
         return;
     }
-    if 8193 < size {
-        return;
-    }
-    if 8193 < table.len() {
-        return;
-    }
-    let text = begun(table, byte as u8);
+    let text = begun(table, byte);
     reading(rt, name, &text[..size]);
 }

@@ -18,20 +18,13 @@ fn tasked(rt: &impl Print, name: &[u8], tasks: &[u8], text: &[u8]) {
     let end = line::place_of(tasks, 0, b';');
     let first = task::read(&tasks[..end]);
     let second = task::read(&tasks[end..]);
-    let letter = first.letter;
-    let then = second.letter;
-    match letter {
-        b'w' => back(rt, name, text, first),
-        b'f' => filled(rt, name, text, first),
+    match (first.letter, second.letter) {
+        (b'w', _) => back(rt, name, text, first),
+        (b'f', _) => filled(rt, name, text, first),
+        (_, b'w') => sizes(rt, name, changed(base(), first), text, second),
         _ => {
-            let programme = changed(base(), first);
-            match then {
-                b'w' => sizes(rt, name, programme, text, second),
-                _ => {
-                    words(rt, name);
-                    answer(rt, changed(programme, second), text, 1700);
-                }
-            }
+            words(rt, name);
+            answer(rt, changed(changed(base(), first), second), text, 1700);
         }
     }
 }

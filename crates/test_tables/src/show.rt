@@ -5,7 +5,8 @@ use layer::terms::{RATES, Terms};
 use programme::contract::{Layers, Treaties};
 use treaty::Treaty;
 
-// What cannot be written is let go: the program goes on.
+// What cannot be written is let go: the program goes on. No clause can tell
+// what is printed, so that a crate for these lines would promise nothing: each program has its own.
 pub fn words(rt: &impl Print, text: &[u8]) {
     let _ = rt.write_all(text);
 }
@@ -20,7 +21,7 @@ pub fn number(rt: &impl Print, n: u64) {
 }
 
 // [kind T cede capacity retain lines event]
-fn treaty_place(rt: &impl Print, t: Treaty) {
+fn treaty_place(rt: &impl Print, t: &Treaty) {
     words(rt, b" [");
     decimal(rt, t.kind);
     number(rt, t.number);
@@ -33,32 +34,28 @@ fn treaty_place(rt: &impl Print, t: Treaty) {
 }
 
 // Shows the first rates, as many as are used, and returns the bits of the others.
-fn rate_places(rt: &impl Print, rates: [u64; RATES], used: u64) -> u64 {
+fn rate_places(rt: &impl Print, rates: &[u64; RATES], used: u64) -> u64 {
     let mut rest: u64 = 0;
-    let mut i: usize = 0;
-    while i < RATES {
-        let rate = rates[i];
+    for (i, rate) in rates.iter().enumerate() {
         if (i as u64) < used {
-            number(rt, rate);
+            number(rt, *rate);
         } else {
-            rest = rest | rate;
+            rest |= *rate;
         }
-        i += 1;
     }
     rest
 }
 
 // [attachment limit deduct K premium rates placed], and a time that is not 0 after its word; returns the bits of the
 // rates that are not used.
-fn layer_place(rt: &impl Print, l: Terms) -> u64 {
+fn layer_place(rt: &impl Print, l: &Terms) -> u64 {
     words(rt, b" [");
     decimal(rt, l.attachment);
     number(rt, l.limit);
     number(rt, l.deductible);
     number(rt, l.reinstatements);
     number(rt, l.premium);
-    let rates = l.rates;
-    let rest = rate_places(rt, rates, l.reinstatements);
+    let rest = rate_places(rt, &l.rates, l.reinstatements);
     number(rt, l.placed);
     if l.time != 0 {
         words(rt, b" time");
@@ -68,46 +65,37 @@ fn layer_place(rt: &impl Print, l: Terms) -> u64 {
     rest
 }
 
-fn treaty_bits(t: Treaty) -> u64 {
+fn treaty_bits(t: &Treaty) -> u64 {
     t.kind | t.number | t.cede | t.capacity | t.retention | t.lines | t.limit
 }
 
-fn layer_bits(rt: &impl Print, l: Terms) -> u64 {
-    let rates = l.rates;
-    let rest = rate_places(rt, rates, 0);
+fn layer_bits(rt: &impl Print, l: &Terms) -> u64 {
+    let rest = rate_places(rt, &l.rates, 0);
     l.attachment | l.limit | l.deductible | l.reinstatements | l.premium | l.placed | rest | l.time
 }
 
 // Shows the treaties in use and returns the bits of the other places.
-fn treaty_places(rt: &impl Print, treaties: Treaties) -> u64 {
-    let count = treaties.count;
+fn treaty_places(rt: &impl Print, treaties: &Treaties) -> u64 {
     let mut rest: u64 = 0;
-    let mut i: usize = 0;
-    while i < 8 {
-        let t = treaties.places[i];
-        if i < count {
+    for (i, t) in treaties.places.iter().enumerate() {
+        if i < treaties.count {
             treaty_place(rt, t);
         } else {
-            rest = rest | treaty_bits(t);
+            rest |= treaty_bits(t);
         }
-        i += 1;
     }
     rest
 }
 
 // The same for one tier.
-fn layer_places(rt: &impl Print, layers: Layers) -> u64 {
-    let count = layers.count;
+fn layer_places(rt: &impl Print, layers: &Layers) -> u64 {
     let mut rest: u64 = 0;
-    let mut i: usize = 0;
-    while i < 8 {
-        let l = layers.places[i];
-        if i < count {
-            rest = rest | layer_place(rt, l);
+    for (i, l) in layers.places.iter().enumerate() {
+        rest |= if i < layers.count {
+            layer_place(rt, l)
         } else {
-            rest = rest | layer_bits(rt, l);
-        }
-        i += 1;
+            layer_bits(rt, l)
+        };
     }
     rest
 }
@@ -115,21 +103,18 @@ fn layer_places(rt: &impl Print, layers: Layers) -> u64 {
 // Reads a text and shows what reading answers.
 pub fn reading(rt: &impl Print, name: &[u8], text: &[u8]) {
     let reading = table::read(text);
-    let programme = reading.programme;
-    let treaties = programme.treaties;
-    let risk = programme.risk;
-    let cat = programme.cat;
+    let programme = &reading.programme;
     words(rt, name);
     words(rt, b":");
     number(rt, reading.refusal);
     number(rt, reading.line);
     words(rt, b" counts");
-    number(rt, treaties.count as u64);
-    number(rt, risk.count as u64);
-    number(rt, cat.count as u64);
-    let first = treaty_places(rt, treaties);
-    let second = layer_places(rt, risk);
-    let third = layer_places(rt, cat);
+    number(rt, programme.treaties.count as u64);
+    number(rt, programme.risk.count as u64);
+    number(rt, programme.cat.count as u64);
+    let first = treaty_places(rt, &programme.treaties);
+    let second = layer_places(rt, &programme.risk);
+    let third = layer_places(rt, &programme.cat);
     words(rt, b" rest");
     number(rt, first | second | third);
     words(rt, b"\n");

@@ -1,6 +1,8 @@
 // What a case is to do: a letter and up to eight numbers with blanks between them.
 ghost use Rattle.std.specs.Prelude.{◌≤◌};
 
+// The letter is the one that stands in the list of cases; any other changes nothing, so that it is no enum. The count
+// stands beside an array, since the program allocates nothing.
 #[derive(Clone, Copy)]
 pub struct Task {
     pub letter: u8,
@@ -13,9 +15,9 @@ fn longer(n: u64, digit: u8) -> u64
     requires { digit ≤ 9 }
 {
     if n <= 1844674407370955160 {
-        return n * 10 + digit as u64;
+        return n * 10 + u64::from(digit);
     }
-    18446744073709551615
+    u64::MAX
 }
 
 // Reads a task; semicolons are passed over.
@@ -23,21 +25,14 @@ pub fn read(text: &[u8]) -> Task
     ensures { result.count ≤ 8 }
 {
     let mut letter: u8 = 0;
-    let mut numbers: [u64; 8] = [0; 8];
+    let mut numbers = [0u64; 8];
     let mut last: usize = 0;
-    let mut i: usize = 0;
-    while i < text.len() {
-        let byte = text[i];
-        i += 1;
-        match byte {
-            b'0'..=b'9' => numbers[last] = longer(numbers[last], byte - b'0'),
-            b' ' => {
-                if last < 7 {
-                    last += 1;
-                }
-            }
+    for byte in text {
+        match *byte {
+            digit @ b'0'..=b'9' => numbers[last] = longer(numbers[last], digit - b'0'),
+            b' ' => last = (last + 1).min(7),
             b';' => {}
-            _ => letter = byte,
+            other => letter = other,
         }
     }
     Task {

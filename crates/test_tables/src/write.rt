@@ -8,29 +8,16 @@ use programme::contract::Programme;
 
 // How many bytes at the front are those of a text.
 fn same(bytes: &[u8; 1700], text: &[u8]) -> usize {
-    let mut i: usize = 0;
-    while i < text.len() {
-        if 1700 <= i {
-            return i;
-        }
-        if bytes[i] != text[i] {
-            return i;
-        }
-        i += 1;
-    }
-    i
+    bytes.iter().zip(text).take_while(|(a, b)| *a == *b).count()
 }
 
 // Where the bytes as lent end, from a place on: 1,700 if all from there are so.
 fn as_lent(bytes: &[u8; 1700], from: usize) -> usize {
-    let mut i = from;
-    while i < 1700 {
-        if bytes[i] != b'#' {
-            return i;
-        }
-        i += 1;
-    }
-    i
+    from + bytes
+        .iter()
+        .skip(from)
+        .take_while(|byte| **byte == b'#')
+        .count()
 }
 
 // Writes a programme whose text is typed into a buffer of a size, and shows what writing answers.
@@ -64,11 +51,8 @@ fn sized(rt: &impl Print, name: &[u8], programme: Programme, text: &[u8], size: 
 pub fn sizes(rt: &impl Print, name: &[u8], programme: Programme, text: &[u8], task: Task)
     requires { task.count ≤ 8 }
 {
-    let count = task.count;
-    let mut i: usize = 0;
-    while i < count {
-        sized(rt, name, programme, text, task.numbers[i]);
-        i += 1;
+    for size in &task.numbers[..task.count] {
+        sized(rt, name, programme, text, *size);
     }
 }
 
@@ -76,7 +60,5 @@ pub fn sizes(rt: &impl Print, name: &[u8], programme: Programme, text: &[u8], ta
 pub fn back(rt: &impl Print, name: &[u8], text: &[u8], task: Task)
     requires { task.count ≤ 8 }
 {
-    let reading = table::read(text);
-    let programme = reading.programme;
-    sizes(rt, name, programme, text, task);
+    sizes(rt, name, table::read(text).programme, text, task);
 }

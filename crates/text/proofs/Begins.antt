@@ -1,15 +1,13 @@
 -- A form that is read by its fixed bytes and its numbers, not byte by byte along a template.
 -- Assumes nothing.
 use Rattle.std.proofs.Common.{◌≡◌, ℕ, suc, ◌+◌, ◌*◌, ◌/◌, ◌^◌, ◌<◌, ◌≤◌, Bool, true, false, eqb, List, [], ◌∷◌, ◌++◌, length, get_or, drop, sym, refl, ap, ◌∙◌, arith, length-drop, drop_of_length-le, get_or-drop, drop-cons, drop-drop, pow-add, eq-eqb, ne_eqb}
-use mathlib.Core.Option.{Option, none}
+use Rattle.std.specs.Prelude.{Option, Some, None}
 use Rattle.lists.specs.Each.{Each}
 use Rattle.lists.proofs.Cases.{by_test, by-eq}
 use Rattle.text.specs.Begin.{begins, Stands}
 use Rattle.text.specs.Number.{number_at}
 use Rattle.text.specs.Template.{capital, holes, matched}
 use Rattle.text.specs.Word.{byte_of, BytesAt}
-use Rattle.text.specs.declared.number.Number.{Number}
-use Rattle.text.specs.declared.number.Number.TheVariants.{Value, Nothing}
 use Rattle.text.proofs.Ascii.{Byte}
 use Rattle.text.proofs.Matching.{number-found, number-missing}
 use Rattle.text.proofs.Templates.{holes-number, holes-byte}
@@ -90,7 +88,7 @@ matched-begun (b ∷ u) t ns (a ∷ x) p e =
     (λ n. let g : false ≡ true = sym (other-begins b a u x n) ∙ e in
     let z : ◌≡◌ {A = ℕ} 0 1 = cc in absurd (omega arith))
 
-pub matched-other-beginning : (u t ns x : List ℕ) → holes u ≡ 0 → begins u x ≡ false → matched ns (u ++ t) x ≡ none
+pub matched-other-beginning : (u t ns x : List ℕ) → holes u ≡ 0 → begins u x ≡ false → matched ns (u ++ t) x ≡ None
 unfolding begins matched
 matched-other-beginning [] t ns x p e = let z : ◌≡◌ {A = ℕ} 0 1 = cc in absurd (omega arith)
 matched-other-beginning (b ∷ u) t ns [] p e = refl
@@ -103,7 +101,7 @@ matched-other-beginning (b ∷ u) t ns (a ∷ x) p e =
 
 -- a text that ends with or before them
 pub matched-short : (u : List ℕ) (b : ℕ) (t ns x : List ℕ) → holes u ≡ 0 → length x ≤ length u
-    → matched ns (u ++ (b ∷ t)) x ≡ none
+    → matched ns (u ++ (b ∷ t)) x ≡ None
 unfolding matched
 matched-short u b t ns x p l =
     by_test (begins u x)
@@ -117,12 +115,12 @@ module _ (s : List ℕ) (j : ℕ) (o : Option (List ℕ × List ℕ)) (ns : List
   fixed_read u t p q e = q ∙ matched-begun u t ns (drop j s) p e ∙ ap (matched ns t) (drop-drop (length u) j s)
 
   -- a number is read there
-  module _ (c : ℕ) (t : List ℕ) (q : o ≡ matched ns (c ∷ t) (drop j s)) (k : true ≡ capital c) (r : Number)
+  module _ (c : ℕ) (t : List ℕ) (q : o ≡ matched ns (c ∷ t) (drop j s)) (k : true ≡ capital c) (r : Option (ℕ × ℕ))
       (e : r ≡ number_at s j) where
-    pub number-none : r ≡ Nothing → o ≡ none
+    pub number-none : r ≡ None → o ≡ None
     number-none z = q ∙ matched-no-number c t k ns (drop j s) (number-missing s j (sym z ∙ e))
 
-    module _ (h : j ≤ length s) (v next : ℕ) (z : r ≡ Value v next) where
+    module _ (h : j ≤ length s) (v next : ℕ) (z : r ≡ Some (v, next)) where
       pub number-read-on : o ≡ matched (ns ++ (v ∷ [])) t (drop next s)
       number-read-on =
           q ∙ matched-number c t k ns (drop j s) (drop next s) v (number-found s j v next h (sym z ∙ e)).0
@@ -136,7 +134,7 @@ module _ (s : List ℕ) (j : ℕ) (o : Option (List ℕ × List ℕ)) (ns : List
   pub byte-read : f ≡ true → o ≡ matched ns t (drop (j + 1) s)
   byte-read y = fixed_read s j o ns (b ∷ []) t p q (sym g.same ∙ y)
 
-  pub byte-other : f ≡ false → o ≡ none
+  pub byte-other : f ≡ false → o ≡ None
   byte-other y = q ∙ matched-other-beginning (b ∷ []) t ns (drop j s) p (sym g.same ∙ y)
 
 -- one byte at a place

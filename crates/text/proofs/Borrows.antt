@@ -7,7 +7,7 @@ use lib.Count.{count_trailing_zeros}
 use Rattle.lists.proofs.Cases.{by-eq}
 use Rattle.text.specs.Word.{byte_of}
 use Rattle.text.specs.Feed.{first_feed}
-use Rattle.text.specs.declared.feed.Feed.TheVariants.{First, None}
+use Rattle.std.specs.Prelude.{Some, None}
 use Rattle.text.proofs.Words.{repeated, next-byte}
 use Rattle.text.proofs.Marks.{all-below, at-below}
 use Rattle.text.proofs.Zeros.{bits, byte_stop, byte_skip}
@@ -171,5 +171,5 @@ module _ (w r : ℕ) (h : (r + repeated 1 8) % 2 ^ 64 ≡ turned 8 w) where
   pub no-mark : of_word ≡ 0 → None ≡ first_feed w
   no-mark z = sym ((none-exactly w).1 (marked.none z))
 
-  pub first-mark : (of_word ≡ 0 → ⊥) → First (count_trailing_zeros 64 of_word / 8) ≡ first_feed w
+  pub first-mark : (of_word ≡ 0 → ⊥) → Some (count_trailing_zeros 64 of_word / 8) ≡ first_feed w
   first-mark z = sym ((first-exactly w _).1 (marked.first z))

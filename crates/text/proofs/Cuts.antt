@@ -2,7 +2,7 @@
 -- Assumes nothing.
 use Prim.{Unit}
 use Rattle.std.proofs.Common.{◌≡◌, ℕ, List, [], ◌∷◌, ◌++◌, refl, ◌∙◌, eq-eqb}
-use mathlib.Core.Option.{Option, none, some}
+use Rattle.std.specs.Prelude.{Option, None, Some}
 use Rattle.lists.proofs.Cases.{by-eq}
 use Rattle.text.specs.Lines.{beginning, lines_of}
 use Rattle.text.proofs.Feeds.{byte-begins}
@@ -13,7 +13,7 @@ WholeLines [] = Unit {0}
 WholeLines (b ∷ []) = b ≡ 10
 WholeLines (b ∷ a ∷ s) = WholeLines (a ∷ s)
 
-feed-ends : (b : ℕ) (s : List ℕ) → b ≡ 10 → lines_of (b ∷ s) ≡ some [] ∷ lines_of s
+feed-ends : (b : ℕ) (s : List ℕ) → b ≡ 10 → lines_of (b ∷ s) ≡ Some [] ∷ lines_of s
 unfolding lines_of
 feed-ends b s e = simp (lines_of, eq-eqb b 10 e)
 
@@ -25,8 +25,8 @@ begun-append b a s ls =
   where
     twice : (ks : List (Option (List ℕ))) → beginning b (beginning a ks ++ ls) ≡ beginning b (beginning a ks) ++ ls
     twice [] = refl
-    twice (none ∷ ks) = refl
-    twice (some k ∷ ks) = refl
+    twice (None ∷ ks) = refl
+    twice (Some k ∷ ks) = refl
 
 -- the lines of whole lines and of the text after them
 pub lines-append : (s u : List ℕ) → WholeLines s → lines_of (s ++ u) ≡ lines_of s ++ lines_of u

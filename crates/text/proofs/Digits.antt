@@ -1,12 +1,10 @@
 -- Laws of a number that is read: byte by byte, a printed number is read back, and what is read prints as it stood.
 -- Assumes nothing.
 use Rattle.std.proofs.Common.{◌≡◌, ℕ, ◌+◌, ◌-◌, ◌*◌, ◌/◌, ◌%◌, ◌^◌, ◌<◌, ◌≤◌, List, [], ◌∷◌, length, get_or, drop, sym, refl, ap, ◌∙◌, add-one, arith, length-drop, drop_of_length-le, drop-cons, le-ltb, lt-ltb, le-leb}
-use mathlib.Core.Option.{Option, none, some}
+use Rattle.std.specs.Prelude.{Option, None, Some}
 use borrow.Author.Tests.{lt-leb}
 use Rattle.lists.proofs.Cases.{by-lt}
 use Rattle.text.specs.Number.{printed, digit_of, read_on, number, number_of, number_at, number_on}
-use Rattle.text.specs.declared.number.Number.{Number}
-use Rattle.text.specs.declared.number.Number.TheVariants.{Value, Nothing}
 use Rattle.text.proofs.Printing.{printed-one, printed-more, by_digits}
 
 -- a number of at most sixteen digits
@@ -44,12 +42,12 @@ of_digit b l =
 
 -- at the place i of the text s, where d is the byte's value as a digit
 module _ (s : List ℕ) (i : ℕ) where
-  pub number-end : length s ≤ i → number (drop i s) ≡ none
+  pub number-end : length s ≤ i → number (drop i s) ≡ None
   unfolding number
   number-end h = rw (drop_of_length-le s h)
 
   module _ (d : ℕ) (h : i < length s) (e : d ≡ digit_of (get_or s i 0)) where
-    pub number-other : 10 ≤ d → number (drop i s) ≡ none
+    pub number-other : 10 ≤ d → number (drop i s) ≡ None
     unfolding number
     number-other l = rw (drop-cons s i 0 h) (simp (number, ← e, le-ltb _ _ l))
 
@@ -59,20 +57,20 @@ module _ (s : List ℕ) (i : ℕ) where
 
   -- the same after the digits of v, where o is what is read in all
   module _ (v : ℕ) (o : Option (ℕ × List ℕ)) (q : o ≡ read_on v (drop i s)) where
-    pub read-end : length s ≤ i → o ≡ some (v, drop i s)
+    pub read-end : length s ≤ i → o ≡ Some (v, drop i s)
     unfolding read_on
     read-end h = q ∙ rw (drop_of_length-le s h)
 
     module _ (d : ℕ) (h : i < length s) (e : d ≡ digit_of (get_or s i 0)) where
-      pub read-other : 10 ≤ d → o ≡ some (v, drop i s)
+      pub read-other : 10 ≤ d → o ≡ Some (v, drop i s)
       unfolding read_on
       read-other l = q ∙ rw (drop-cons s i 0 h) (simp (read_on, ← e, le-ltb _ _ l))
 
-      pub read-zero : d < 10 → v ≡ 0 → o ≡ none
+      pub read-zero : d < 10 → v ≡ 0 → o ≡ None
       unfolding read_on
       read-zero l z = q ∙ rw (drop-cons s i 0 h, z) (simp (read_on, ← e, lt-ltb _ _ l))
 
-      pub read-long : d < 10 → 10 ^ 15 ≤ v → o ≡ none
+      pub read-long : d < 10 → 10 ^ 15 ≤ v → o ≡ None
       unfolding read_on
       read-long l g =
           q ∙ rw (drop-cons s i 0 h) (simp (read_on, ← e, lt-ltb _ _ l, lt-ltb 0 v (omega arith), le-ltb _ _ g))
@@ -86,31 +84,31 @@ module _ (s : List ℕ) (i : ℕ) where
 
 -- what was read, as the answer
 module _ (s : List ℕ) (at : ℕ) where
-  pub found : (v i : ℕ) → i ≤ length s → number (drop at s) ≡ some (v, drop i s) → Value v i ≡ number_at s at
+  pub found : (v i : ℕ) → i ≤ length s → number (drop at s) ≡ Some (v, drop i s) → Some (v, i) ≡ number_at s at
   unfolding number_at
-  found v i h e = rw (e, length-drop) (ap (Value v) (omega arith))
+  found v i h e = rw (e, length-drop) (ap (λ (j : ℕ). Some (v, j)) (omega arith))
 
-  pub missing : number (drop at s) ≡ none → Nothing ≡ number_at s at
+  pub missing : number (drop at s) ≡ None → None ≡ number_at s at
   unfolding number_at
   missing e = rw e
 
 -- the same after first digits v
 module _ (s : List ℕ) (v at : ℕ) where
-  pub found-on : (w i : ℕ) → i ≤ length s → read_on v (drop at s) ≡ some (w, drop i s) → Value w i ≡ number_on s v at
+  pub found-on : (w i : ℕ) → i ≤ length s → read_on v (drop at s) ≡ Some (w, drop i s) → Some (w, i) ≡ number_on s v at
   unfolding number_on
-  found-on w i h e = rw (e, length-drop) (ap (Value w) (omega arith))
+  found-on w i h e = rw (e, length-drop) (ap (λ (j : ℕ). Some (w, j)) (omega arith))
 
-  pub missing-on : read_on v (drop at s) ≡ none → Nothing ≡ number_on s v at
+  pub missing-on : read_on v (drop at s) ≡ None → None ≡ number_on s v at
   unfolding number_on
   missing-on e = rw e
 
   -- and the other way round: what is read after them is what is read in all
-  pub on-from : (a : ℕ) (r : Number) → number (drop a s) ≡ read_on v (drop at s) → r ≡ number_on s v at
+  pub on-from : (a : ℕ) (r : Option (ℕ × ℕ)) → number (drop a s) ≡ read_on v (drop at s) → r ≡ number_on s v at
       → r ≡ number_at s a
   unfolding number_on number_at
   on-from a r e q = q ∙ ap (number_of (length s)) (sym e)
 
-  pub on-on : (w a : ℕ) (r : Number) → read_on w (drop a s) ≡ read_on v (drop at s) → r ≡ number_on s v at
+  pub on-on : (w a : ℕ) (r : Option (ℕ × ℕ)) → read_on w (drop a s) ≡ read_on v (drop at s) → r ≡ number_on s v at
       → r ≡ number_on s w a
   unfolding number_on
   on-on w a r e q = q ∙ ap (number_of (length s)) (sym e)
@@ -124,7 +122,7 @@ read-cons : (v d : ℕ) (s : List ℕ) → d < 10 → 0 < v → v < 10 ^ 15 → 
 unfolding read_on
 read-cons v d s l p g = simp (read_on, digit_of_lem d l, lt-ltb _ _ l, lt-ltb _ _ p, lt-ltb _ _ g)
 
-read-ended : (n : ℕ) (s : List ℕ) → Ended s → read_on n s ≡ some (n, s)
+read-ended : (n : ℕ) (s : List ℕ) → Ended s → read_on n s ≡ Some (n, s)
 unfolding read_on
 read-ended n [] h = refl
 read-ended n (b ∷ s) h = simp (read_on, le-ltb _ _ h)
@@ -139,13 +137,13 @@ read-on =
     ∙ ap (λ (m : ℕ). read_on m s) (omega arith)))
 
 -- a printed number is read back, with what stands after it
-pub number-printed : (n : ℕ) (s : List ℕ) → n < 10 ^ 16 → Ended s → number (printed n s) ≡ some (n, s)
+pub number-printed : (n : ℕ) (s : List ℕ) → n < 10 ^ 16 → Ended s → number (printed n s) ≡ Some (n, s)
 number-printed n s l h = read-on n s l ∙ read-ended n s h
 
 -- what is read of the text x, if anything, prints as x
 abbrev Prints : List ℕ → Option (ℕ × List ℕ) → Type 0
-Prints x none = Unit {0}
-Prints x (some p) = (x ≡ printed p.0 p.1) × (p.0 < 10 ^ 16) × Ended p.1
+Prints x None = Unit {0}
+Prints x (Some p) = (x ≡ printed p.0 p.1) × (p.0 < 10 ^ 16) × Ended p.1
 
 printed-cons : (v b : ℕ) (s : List ℕ) → 0 < v → digit_of b < 10 → printed (v * 10 + digit_of b) s ≡ printed v (b ∷ s)
 printed-cons v b s p d = printed-more (v * 10 + digit_of b) s (omega arith) ∙ rw (quotient, last)
@@ -179,6 +177,6 @@ number-prints (b ∷ s) =
     (λ d. simp (number, le-ltb _ _ d) tt)
 
 -- a number that is read prints as it stood
-pub number_read : (s : List ℕ) (n : ℕ) (t : List ℕ) → number s ≡ some (n, t)
+pub number_read : (s : List ℕ) (n : ℕ) (t : List ℕ) → number s ≡ Some (n, t)
     → (s ≡ printed n t) × (n < 10 ^ 16) × Ended t
 number_read s n t e = rw e at (number-prints s)

@@ -2,7 +2,7 @@
 -- prints in a line.
 -- Assumes nothing.
 use Rattle.std.proofs.Common.{◌≡◌, ℕ, suc, ◌+◌, ◌-◌, ◌%◌, ◌<◌, ◌≤◌, Bool, true, false, eqb, List, [], ◌∷◌, ◌++◌, map, length, get_or, take, drop, sym, refl, ap, ◌∙◌, append_assoc, arith, length-drop, drop_of_length-le, drop-cons, drop-drop, eq-eqb, ne_eqb}
-use mathlib.Core.Option.{Option, none, some}
+use Rattle.std.specs.Prelude.{Option, None, Some}
 use Rattle.lists.specs.Each.{Each}
 use Rattle.lists.proofs.Cases.{by_test, by-eq}
 use Rattle.text.specs.Number.{printed}
@@ -49,7 +49,7 @@ up_to_feed_le (b ∷ s) =
 
 -- the first line of a text, and the lines after it
 first-line : (s : List ℕ) → length (up_to 10 s) < length s
-    → lines_of s ≡ some (take (length (up_to 10 s)) s) ∷ lines_of (drop (suc (length (up_to 10 s))) s)
+    → lines_of s ≡ Some (take (length (up_to 10 s)) s) ∷ lines_of (drop (suc (length (up_to 10 s))) s)
 unfolding up_to lines_of
 first-line [] h = absurd (omega arith)
 first-line (b ∷ s) h =
@@ -67,7 +67,7 @@ no-feed b s h =
     (λ e. absurd (omega (arith, simp (up_to, eq-eqb b 10 e) at h)))
     (λ e. (e, omega (arith, simp (up_to, ne_eqb b 10 e) at h)))
 
-no_line : (s : List ℕ) → 0 < length s → length (up_to 10 s) ≡ length s → lines_of s ≡ none ∷ []
+no_line : (s : List ℕ) → 0 < length s → length (up_to 10 s) ≡ length s → lines_of s ≡ None ∷ []
 unfolding lines_of
 no_line [] p h = absurd (omega arith)
 no_line (b ∷ []) p h = simp (lines_of, ne_eqb b 10 (no-feed b [] h).0)
@@ -77,7 +77,7 @@ no_line (b ∷ a ∷ s) p h =
 
 -- at a place of a text, for a line that ends at e
 module _ (s : List ℕ) (at e : ℕ) (q : e ≡ line_end s at) (h : at < length s) where
-  pub line_at : (e ≡ length s → ⊥) → lines_of (drop at s) ≡ some (take (e - at) (drop at s)) ∷ lines_of (drop (e + 1) s)
+  pub line_at : (e ≡ length s → ⊥) → lines_of (drop at s) ≡ Some (take (e - at) (drop at s)) ∷ lines_of (drop (e + 1) s)
   line_at n =
       first-line (drop at s) (omega (arith, up_to_feed_le (drop at s), length-drop at s))
       ∙ rw (size, drop-drop (suc (e - at)) at s, next)
@@ -88,7 +88,7 @@ module _ (s : List ℕ) (at e : ℕ) (q : e ≡ line_end s at) (h : at < length 
       next : at + suc (e - at) ≡ e + 1
       next = omega arith
 
-  pub line-last : e ≡ length s → lines_of (drop at s) ≡ none ∷ []
+  pub line-last : e ≡ length s → lines_of (drop at s) ≡ None ∷ []
   line-last n = no_line (drop at s) (omega (arith, length-drop at s)) (omega (arith, length-drop at s))
 
 pub line-none : (s : List ℕ) (at : ℕ) → length s ≤ at → lines_of (drop at s) ≡ []
@@ -104,23 +104,23 @@ pub byte-begins : (b : ℕ) (s : List ℕ) → (b ≡ 10 → ⊥) → lines_of (
 unfolding lines_of
 byte-begins b s h = simp (lines_of, ne_eqb b 10 h)
 
-pub line_and_rest : (l s : List ℕ) → NoFeed l → lines_of (l ++ (10 ∷ s)) ≡ some l ∷ lines_of s
+pub line_and_rest : (l s : List ℕ) → NoFeed l → lines_of (l ++ (10 ∷ s)) ≡ Some l ∷ lines_of s
 unfolding lines_of
 line_and_rest [] s z = refl
 line_and_rest (b ∷ l) s z = byte-begins b (l ++ (10 ∷ s)) z.0 ∙ ap (beginning b) (line_and_rest l s z.1)
 
 -- lines put together are the lines of the text
-pub lines-joined : (ls : List (List ℕ)) → Each NoFeed ls → lines_of (joined ls) ≡ map some ls
+pub lines-joined : (ls : List (List ℕ)) → Each NoFeed ls → lines_of (joined ls) ≡ map Some ls
 unfolding lines_of
 lines-joined [] z = refl
 lines-joined (l ∷ ls) z =
-    line_and_rest l (joined ls) z.0 ∙ ap (λ (x : List (Option (List ℕ))). some l ∷ x) (lines-joined ls z.1)
+    line_and_rest l (joined ls) z.0 ∙ ap (λ (x : List (Option (List ℕ))). Some l ∷ x) (lines-joined ls z.1)
 
 -- the text s is its lines put together, if they all end
 abbrev Rejoined : List ℕ → Type 0
-Rejoined s = (ls : List (List ℕ)) → lines_of s ≡ map some ls → s ≡ joined ls
+Rejoined s = (ls : List (List ℕ)) → lines_of s ≡ map Some ls → s ≡ joined ls
 
-pub joined-lines : (s : List ℕ) (ls : List (List ℕ)) → lines_of s ≡ map some ls → s ≡ joined ls
+pub joined-lines : (s : List ℕ) (ls : List (List ℕ)) → lines_of s ≡ map Some ls → s ≡ joined ls
 unfolding lines_of
 joined-lines [] [] e = refl
 joined-lines [] (l ∷ ls) e = let n : ◌≡◌ {A = ℕ} 0 1 = cc in absurd (omega arith)
@@ -129,23 +129,23 @@ joined-lines (b ∷ s) ls e =
     (λ h. feed h ls (simp (lines_of, eq-eqb b 10 h) at e) (joined-lines s))
     (λ h. byte (lines_of s) refl ls (simp (lines_of, ne_eqb b 10 h) at e) (joined-lines s))
   where
-    feed : b ≡ 10 → (ls : List (List ℕ)) → some [] ∷ lines_of s ≡ map some ls → Rejoined s → b ∷ s ≡ joined ls
+    feed : b ≡ 10 → (ls : List (List ℕ)) → Some [] ∷ lines_of s ≡ map Some ls → Rejoined s → b ∷ s ≡ joined ls
     feed h [] q again = let n : ◌≡◌ {A = ℕ} 0 1 = cc in absurd (omega arith)
     feed h (l ∷ ls) q again =
         let m : [] ≡ l = cc in
-        let k : lines_of s ≡ map some ls = cc in
+        let k : lines_of s ≡ map Some ls = cc in
         rw (h, ← m, again ls k)
 
-    byte : (x : List (Option (List ℕ))) → lines_of s ≡ x → (ls : List (List ℕ)) → beginning b x ≡ map some ls
+    byte : (x : List (Option (List ℕ))) → lines_of s ≡ x → (ls : List (List ℕ)) → beginning b x ≡ map Some ls
         → Rejoined s → b ∷ s ≡ joined ls
     byte [] h [] q again = let n : ◌≡◌ {A = ℕ} 0 1 = cc in absurd (omega arith)
-    byte (none ∷ x) h [] q again = let n : ◌≡◌ {A = ℕ} 0 1 = cc in absurd (omega arith)
-    byte (some m ∷ x) h [] q again = let n : ◌≡◌ {A = ℕ} 0 1 = cc in absurd (omega arith)
+    byte (None ∷ x) h [] q again = let n : ◌≡◌ {A = ℕ} 0 1 = cc in absurd (omega arith)
+    byte (Some m ∷ x) h [] q again = let n : ◌≡◌ {A = ℕ} 0 1 = cc in absurd (omega arith)
     byte [] h (l ∷ ls) q again = let n : ◌≡◌ {A = ℕ} 0 1 = cc in absurd (omega arith)
-    byte (none ∷ x) h (l ∷ ls) q again = let n : ◌≡◌ {A = ℕ} 0 1 = cc in absurd (omega arith)
-    byte (some m ∷ x) h (l ∷ ls) q again =
+    byte (None ∷ x) h (l ∷ ls) q again = let n : ◌≡◌ {A = ℕ} 0 1 = cc in absurd (omega arith)
+    byte (Some m ∷ x) h (l ∷ ls) q again =
         let k : b ∷ m ≡ l = cc in
-        let r : x ≡ map some ls = cc in
+        let r : x ≡ map Some ls = cc in
         rw (← k) (ap (λ (y : List ℕ). b ∷ y) (again (m ∷ ls) (h ∙ rw r)))
 
 pub joined-append : (xs ys : List (List ℕ)) → joined (xs ++ ys) ≡ joined xs ++ joined ys

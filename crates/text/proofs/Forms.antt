@@ -2,7 +2,7 @@
 -- printed alike have the same numbers.
 -- Assumes nothing.
 use Rattle.std.proofs.Common.{◌≡◌, ℕ, suc, ◌+◌, ◌*◌, ◌/◌, ◌%◌, ◌<◌, Bool, true, false, not, ◌&&◌, ltb, leb, List, [], ◌∷◌, ◌++◌, length, get_or, drop, sym, refl, ap, ◌∙◌, append_assoc, append-nil, arith, lit≤, le-ltb, lt-ltb, leb-true}
-use mathlib.Core.Option.{Option, none, some}
+use Rattle.std.specs.Prelude.{Option, None, Some}
 use Rattle.lists.specs.Each.{Each}
 use Rattle.lists.proofs.Chains.{both}
 use Rattle.lists.proofs.Cases.{by_test, by-eq}
@@ -52,7 +52,7 @@ parted-ended (b ∷ t) ns s g h =
 
 -- a printed template is read back, with what stands after it
 pub matched-filled : (t ns before s : List ℕ) → separated t ≡ true → length ns ≡ holes t → Each Readable ns → Ended s
-    → matched before t (filled t ns s) ≡ some (before ++ ns, s)
+    → matched before t (filled t ns s) ≡ Some (before ++ ns, s)
 unfolding filled matched holes
 matched-filled [] [] before s g l z h = rw append-nil
 matched-filled [] (n ∷ ns) before s g l z h = absurd (omega arith)
@@ -84,14 +84,14 @@ pub record Form (before t x all s : List ℕ) : Type 0 where
 
 -- what is read of the text x, if anything, prints as x
 abbrev Forms : List ℕ → List ℕ → List ℕ → Option (List ℕ × List ℕ) → Type 0
-Forms before t x none = Unit {0}
-Forms before t x (some p) = Form before t x p.0 p.1
+Forms before t x None = Unit {0}
+Forms before t x (Some p) = Form before t x p.0 p.1
 
 -- one byte of the template more
 number-first : (before t x y : List ℕ) (b n : ℕ) → true ≡ capital b → x ≡ printed n y → Readable n
     → (o : Option (List ℕ × List ℕ)) → Forms (before ++ (n ∷ [])) t y o → Forms before (b ∷ t) x o
-number-first before t x y b n e q l none f = tt
-number-first before t x y b n e q l (some p) f = record {
+number-first before t x y b n e q l None f = tt
+number-first before t x y b n e q l (Some p) f = record {
   numbers = n ∷ f.numbers;
   read = f.read ∙ append_assoc before (n ∷ []) f.numbers;
   text = q ∙ ap (printed n) f.text ∙ sym (filled-number b t e (n ∷ f.numbers) p.1);
@@ -101,8 +101,8 @@ number-first before t x y b n e q l (some p) f = record {
 
 byte-first : (before t x : List ℕ) (b : ℕ) → false ≡ capital b
     → (o : Option (List ℕ × List ℕ)) → Forms before t x o → Forms before (b ∷ t) (b ∷ x) o
-byte-first before t x b e none f = tt
-byte-first before t x b e (some p) f = record {
+byte-first before t x b e None f = tt
+byte-first before t x b e (Some p) f = record {
   numbers = f.numbers;
   read = f.read;
   text = ap (λ (y : List ℕ). b ∷ y) f.text ∙ sym (filled-byte b t e f.numbers p.1);
@@ -128,8 +128,8 @@ matched-forms (b ∷ t) before (a ∷ x) =
     on-number : true ≡ capital b → (o : Option (ℕ × List ℕ)) → number (a ∷ x) ≡ o
         → ((ns y : List ℕ) → Forms ns t y (matched ns t y))
         → Forms before (b ∷ t) (a ∷ x) (matched before (b ∷ t) (a ∷ x))
-    on-number e none h ih = rw (matched-no-number b t e before (a ∷ x) h) tt
-    on-number e (some p) h ih =
+    on-number e None h ih = rw (matched-no-number b t e before (a ∷ x) h) tt
+    on-number e (Some p) h ih =
         let r = number_read (a ∷ x) p.0 p.1 h in
         let ns = before ++ (p.0 ∷ []) in
         rw (matched-number b t e before (a ∷ x) p.1 p.0 h)
@@ -143,22 +143,22 @@ matched-forms (b ∷ t) before (a ∷ x) =
         (λ h. rw (matched-other b t e before a x h) tt)
 
 -- what is read by a template prints as it stood
-pub matched-read : (t before x all s : List ℕ) → matched before t x ≡ some (all, s) → Form before t x all s
+pub matched-read : (t before x all s : List ℕ) → matched before t x ≡ Some (all, s) → Form before t x all s
 matched-read t before x all s e = rw e at (matched-forms t before x)
 
-whole-read : (o : Option (List ℕ × List ℕ)) (ns : List ℕ) → whole_of o ≡ some ns → o ≡ some (ns, [])
+whole-read : (o : Option (List ℕ × List ℕ)) (ns : List ℕ) → whole_of o ≡ Some ns → o ≡ Some (ns, [])
 unfolding whole_of
-whole-read none ns e = let z : ◌≡◌ {A = ℕ} 0 1 = cc in absurd (omega arith)
-whole-read (some (ms, [])) ns e = cc
-whole-read (some (ms, b ∷ s)) ns e = let z : ◌≡◌ {A = ℕ} 0 1 = cc in absurd (omega arith)
+whole-read None ns e = let z : ◌≡◌ {A = ℕ} 0 1 = cc in absurd (omega arith)
+whole-read (Some (ms, [])) ns e = cc
+whole-read (Some (ms, b ∷ s)) ns e = let z : ◌≡◌ {A = ℕ} 0 1 = cc in absurd (omega arith)
 
 -- a line that a template reads has nothing after the template
-pub line-matched : (t s ns : List ℕ) → line_numbers t s ≡ some ns → matched [] t s ≡ some (ns, [])
+pub line-matched : (t s ns : List ℕ) → line_numbers t s ≡ Some ns → matched [] t s ≡ Some (ns, [])
 unfolding line_numbers
 line-matched t s ns e = whole-read (matched [] t s) ns e
 
 -- a line that a template reads is the template printed with the numbers read
-pub line_read : (t s ns : List ℕ) → line_numbers t s ≡ some ns
+pub line_read : (t s ns : List ℕ) → line_numbers t s ≡ Some ns
     → (s ≡ filled t ns []) × (length ns ≡ holes t) × Each Readable ns
 line_read t s ns e =
     let f = matched-read t [] s ns [] (line-matched t s ns e) in
@@ -167,7 +167,7 @@ line_read t s ns e =
 
 -- a separated template that is printed with readable numbers is read back
 pub line-printed : (t ns : List ℕ) → separated t ≡ true → length ns ≡ holes t → Each Readable ns
-    → line_numbers t (filled t ns []) ≡ some ns
+    → line_numbers t (filled t ns []) ≡ Some ns
 unfolding line_numbers whole_of
 line-printed t ns g l z = rw (matched-filled t ns [] [] g l z tt)
 

@@ -1,7 +1,7 @@
 -- A template in two parts: what it prints is what the parts print, and it is read one part after the other.
 -- Assumes nothing.
 use Rattle.std.proofs.Common.{◌≡◌, ℕ, true, List, [], ◌∷◌, ◌++◌, length, sym, refl, ap, ◌∙◌, append_assoc, append-nil, arith}
-use mathlib.Core.Option.{Option, none, some}
+use Rattle.std.specs.Prelude.{Option, None, Some}
 use Rattle.lists.proofs.Cases.{by_test, by-eq}
 use Rattle.text.specs.Number.{printed, number}
 use Rattle.text.specs.Template.{capital, holes, filled, matched, whole_of, line_numbers}
@@ -31,8 +31,8 @@ filled-parts (b ∷ t) u (n ∷ ns) ms s l =
 
 -- what is read by the template u after what was read, with the numbers `before` before it
 abbrev pub onward : List ℕ → List ℕ → Option (List ℕ × List ℕ) → Option (List ℕ × List ℕ)
-onward before u none = none
-onward before u (some p) = matched (before ++ p.0) u p.1
+onward before u None = None
+onward before u (Some p) = matched (before ++ p.0) u p.1
 
 -- one part is read after the other, and numbers before the first part's stay before them
 parts-read : (t u before ns s : List ℕ) → matched (before ++ ns) (t ++ u) s ≡ onward before u (matched ns t s)
@@ -53,10 +53,10 @@ parts-read (b ∷ t) u before ns (a ∷ s) =
         → ((ms y : List ℕ) → matched (before ++ ms) (t ++ u) y ≡ onward before u (matched ms t y))
         → (o : Option (ℕ × List ℕ)) → number (a ∷ s) ≡ o
         → matched (before ++ ns) (b ∷ (t ++ u)) (a ∷ s) ≡ onward before u (matched ns (b ∷ t) (a ∷ s))
-    on-number e ih none q =
+    on-number e ih None q =
         matched-no-number b (t ++ u) e (before ++ ns) (a ∷ s) q
         ∙ ap (onward before u) (sym (matched-no-number b t e ns (a ∷ s) q))
-    on-number e ih (some p) q =
+    on-number e ih (Some p) q =
         matched-number b (t ++ u) e (before ++ ns) (a ∷ s) p.1 p.0 q
         ∙ rw (append_assoc before ns (p.0 ∷ [])) (ih (ns ++ (p.0 ∷ [])) p.1)
         ∙ ap (onward before u) (sym (matched-number b t e ns (a ∷ s) p.1 p.0 q))
@@ -72,14 +72,14 @@ matched-after t before s =
 
 -- the same of a whole line
 abbrev pub behind : List ℕ → Option (List ℕ) → Option (List ℕ)
-behind before none = none
-behind before (some ns) = some (before ++ ns)
+behind before None = None
+behind before (Some ns) = Some (before ++ ns)
 
 pub line_after : (t before s : List ℕ) → whole_of (matched before t s) ≡ behind before (line_numbers t s)
 unfolding matched whole_of line_numbers
 line_after t before s = ap whole_of (matched-after t before s) ∙ by_read (matched [] t s)
   where
     by_read : (o : Option (List ℕ × List ℕ)) → whole_of (onward before [] o) ≡ behind before (whole_of o)
-    by_read none = refl
-    by_read (some (ns, [])) = refl
-    by_read (some (ns, b ∷ y)) = refl
+    by_read None = refl
+    by_read (Some (ns, [])) = refl
+    by_read (Some (ns, b ∷ y)) = refl

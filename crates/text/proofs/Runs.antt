@@ -1,13 +1,11 @@
 -- Laws of a number that is read by the word: up to eight digits at once.
 -- Assumes nothing.
-use mathlib.Core.Option.{Option, some}
+use Rattle.std.specs.Prelude.{Option, Some, None}
 use Rattle.std.proofs.Common.{◌≡◌, ℕ, zero, suc, ◌+◌, ◌-◌, ◌*◌, ◌%◌, ◌^◌, ◌<◌, ◌≤◌, List, length, get_or, drop, sym, refl, ap, ◌∙◌, subst, ap₂, add-zero, mul_assoc, mul-le-mul, mul-le-mul_left, pow-suc, mul-one, arith, lit<, lit≤}
 use native.Mathlib.Nat.{pow-le-pow_right}
 use Rattle.lists.proofs.Cases.{by-lt}
 use Rattle.text.specs.Number.{digit_of, read_on, number, number_at, number_on}
 use Rattle.text.specs.Word.{byte_of, figures, Figures, DigitsAt}
-use Rattle.text.specs.declared.number.Number.{Number}
-use Rattle.text.specs.declared.number.Number.TheVariants.{Value, Nothing}
 use Rattle.text.specs.declared.word.Digits.{Digits}
 use Rattle.text.proofs.Digits as law
 use Rattle.text.proofs.Eights.{figures-lt}
@@ -41,7 +39,7 @@ next at n s = ap (λ (k : ℕ). drop k s) (let e : at + n + 1 ≡ at + suc n = o
 
 -- no digit follows the digits of v
 pub no_more : (s : List ℕ) (v at d : ℕ) → at < length s → d ≡ digit_of (get_or s at 0) → 10 ≤ d
-    → Value v at ≡ number_on s v at
+    → Some (v, at) ≡ number_on s v at
 no_more s v at d h e l =
     law.found-on s v at v at (omega arith) (law.read-other s at v (read_on v (drop at s)) refl d h e l)
 
@@ -125,13 +123,13 @@ module _ (s : List ℕ) (at : ℕ) (r : Digits) (w : DigitsAt s at r) where
   after l = w.bytes.other count l (w.leading.end l)
 
   ended : (v : ℕ) (o : Option (ℕ × List ℕ)) → count < 8 → o ≡ read_on v (drop (at + count) s)
-      → o ≡ some (v, drop (at + count) s)
+      → o ≡ Some (v, drop (at + count) s)
   ended v o l q = law.read-other s (at + count) v o q _ (omega (arith, w.room)) refl (after l)
 
   pub all-eight : count ≡ 8 → Figures r.word 8
   all-eight e = subst (Figures r.word) e w.leading.figures
 
-  pub no_number : count ≡ 0 → Nothing ≡ number_at s at
+  pub no_number : count ≡ 0 → None ≡ number_at s at
   no_number e = law.missing s at (law.number-other s at _ (omega (arith, w.room)) refl other)
     where
       other : 10 ≤ digit_of (get_or s at 0)
@@ -145,13 +143,13 @@ module _ (s : List ℕ) (at : ℕ) (r : Digits) (w : DigitsAt s at r) where
         let e : byte 0 ≡ 0 = omega arith in
         number-one (w.leading.figures.each 0 l) ∙ ap (λ (v : ℕ). read_on v (drop (at + 1) s)) e
 
-    pub zero-alone : count ≡ 1 → Value 0 (at + 1) ≡ number_at s at
+    pub zero-alone : count ≡ 1 → Some (0, at + 1) ≡ number_at s at
     zero-alone e =
         law.found s at 0 (at + 1) (omega (arith, w.room))
         (law.read-other s (at + 1) 0 (number (drop at s)) (zero-first (omega arith)) _ (omega (arith, w.room)) refl
         (subst (λ (k : ℕ). 10 ≤ digit_of (get_or s (at + k) 0)) e (after (omega arith))))
 
-    pub zero_leads : (count ≡ 0 → ⊥) → (count ≡ 1 → ⊥) → Nothing ≡ number_at s at
+    pub zero_leads : (count ≡ 0 → ⊥) → (count ≡ 1 → ⊥) → None ≡ number_at s at
     zero_leads a b =
         law.missing s at
         (law.read-zero s (at + 1) 0 (number (drop at s)) (zero-first (omega arith)) (byte 1) (omega (arith, w.room))
@@ -172,13 +170,13 @@ module _ (s : List ℕ) (at : ℕ) (r : Digits) (w : DigitsAt s at r) where
     value_pos e = omega (arith, figures_pos byte 7 (omega arith))
 
     pub value-short : (count ≡ 0 → ⊥) → (count ≡ 8 → ⊥) → v ≡ figures byte count
-        → Value v (at + count) ≡ number_at s at
+        → Some (v, at + count) ≡ number_at s at
     value-short a b e =
         law.found s at v (at + count) (omega (arith, w.room, w.leading.within))
         (ended v (number (drop at s)) (omega (arith, w.leading.within))
         (run (count - 1) (omega arith) ∙ ap (λ (x : ℕ). read_on x (drop (at + count) s)) (sym e)))
 
-    pub value-long : count ≡ 8 → v ≡ figures byte 8 → (a : Number) → a ≡ number_on s v (at + 8) → a ≡ number_at s at
+    pub value-long : count ≡ 8 → v ≡ figures byte 8 → (a : Option (ℕ × ℕ)) → a ≡ number_on s v (at + 8) → a ≡ number_at s at
     value-long e f a =
         law.on-from s v (at + 8) at a
         (number-run 7 (lit< tt) (all-eight e) (omega arith) ∙ ap (λ (x : ℕ). read_on x (drop (at + 8) s)) (sym f))
@@ -194,14 +192,14 @@ module _ (s : List ℕ) (at : ℕ) (r : Digits) (w : DigitsAt s at r) where
         other e h = rw e at h
 
     pub more-short : (f : ℕ) → (count ≡ 8 → ⊥) → (k : ℕ) → k ≡ 10 ^ count → f ≡ figures byte count
-        → Value (v * k + f) (at + count) ≡ number_on s v at
+        → Some (v * k + f, at + count) ≡ number_on s v at
     more-short f b k e i =
         law.found-on s v at (v * k + f) (at + count) (omega (arith, w.room, w.leading.within))
         (ended (v * k + f) (read_on v (drop at s)) (omega (arith, w.leading.within))
         (read-run v p q count w.leading.within w.leading.figures
         ∙ ap₂ (λ (x y : ℕ). read_on (v * x + y) (drop (at + count) s)) (sym e) (sym i)))
 
-    pub more-long : (f : ℕ) → count ≡ 8 → f ≡ figures byte 8 → (a : Number)
+    pub more-long : (f : ℕ) → count ≡ 8 → f ≡ figures byte 8 → (a : Option (ℕ × ℕ))
         → a ≡ number_on s (v * 100000000 + f) (at + 8) → a ≡ number_on s v at
     more-long f e i a =
         law.on-on s (v * 100000000 + f) (at + 8) v at a

@@ -1,7 +1,7 @@
 -- Laws of one byte of a template: whether it is a number's place, what is printed for it, and how it is read.
 -- Assumes nothing.
 use Rattle.std.proofs.Common.{◌≡◌, ℕ, suc, ◌<◌, ◌≤◌, true, false, List, [], ◌∷◌, ◌++◌, get_or, drop, refl, arith, eq-eqb, ne_eqb, le-leb}
-use mathlib.Core.Option.{none, some}
+use Rattle.std.specs.Prelude.{None, Some}
 use borrow.Author.Tests.{lt-leb}
 use Rattle.text.specs.Number.{printed, number}
 use Rattle.text.specs.Template.{capital, holes, filled, matched}
@@ -29,13 +29,13 @@ module _ (b : ℕ) (t : List ℕ) where
     unfolding filled
     filled-number ns s = simp (filled, ← e)
 
-    pub matched-number : (ns x y : List ℕ) (v : ℕ) → number x ≡ some (v, y)
+    pub matched-number : (ns x y : List ℕ) (v : ℕ) → number x ≡ Some (v, y)
         → matched ns (b ∷ t) x ≡ matched (ns ++ (v ∷ [])) t y
     unfolding matched number
     matched-number ns [] y v h = let z : ◌≡◌ {A = ℕ} 0 1 = cc in absurd (omega arith)
     matched-number ns (a ∷ x) y v h = simp (matched, ← e, h)
 
-    pub matched-no-number : (ns x : List ℕ) → number x ≡ none → matched ns (b ∷ t) x ≡ none
+    pub matched-no-number : (ns x : List ℕ) → number x ≡ None → matched ns (b ∷ t) x ≡ None
     unfolding matched
     matched-no-number ns [] h = refl
     matched-no-number ns (a ∷ x) h = simp (matched, ← e, h)
@@ -54,6 +54,6 @@ module _ (b : ℕ) (t : List ℕ) where
     unfolding matched
     matched-same ns a s h = simp (matched, ← e, eq-eqb b a h)
 
-    pub matched-other : (ns : List ℕ) (a : ℕ) (s : List ℕ) → (b ≡ a → ⊥) → matched ns (b ∷ t) (a ∷ s) ≡ none
+    pub matched-other : (ns : List ℕ) (a : ℕ) (s : List ℕ) → (b ≡ a → ⊥) → matched ns (b ∷ t) (a ∷ s) ≡ None
     unfolding matched
     matched-other ns a s h = simp (matched, ← e, ne_eqb b a h)

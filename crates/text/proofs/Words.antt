@@ -1,6 +1,6 @@
 -- Laws of eight bytes as one word: byte by byte.
 -- Assumes nothing.
-use Rattle.std.proofs.Common.{◌≡◌, ℕ, zero, suc, ◌+◌, ◌*◌, ◌/◌, ◌%◌, ◌^◌, ◌<◌, ◌≤◌, List, get_or, sym, ap, ◌∙◌, add-zero, add_assoc, arith, lit<, pow-add}
+use Rattle.std.proofs.Common.{refl, ◌≡◌, ℕ, zero, suc, ◌+◌, ◌*◌, ◌/◌, ◌%◌, ◌^◌, ◌<◌, List, get_or, sym, ap, ◌∙◌, add-zero, arith, pow-add}
 use native.Mathlib.Nat.{div-div-eq-div-mul}
 use lib.Bits.{bit_and, bit_or, bit_xor, and_shr, or_shr, xor_shr, and_mod, or_mod, xor_mod}
 use Rattle.text.specs.Word.{byte_of, BytesAt}
@@ -17,46 +17,44 @@ by_byte P a b c d e f g h (suc (suc (suc (suc (suc (suc zero)))))) l = g
 by_byte P a b c d e f g h (suc (suc (suc (suc (suc (suc (suc zero))))))) l = h
 by_byte P a b c d e f g h (suc (suc (suc (suc (suc (suc (suc (suc k)))))))) l = absurd (omega arith)
 
--- a place by two steps
-on : (s : List ℕ) (at m k : ℕ) → get_or s (at + m + k) 0 ≡ get_or s (at + (m + k)) 0
-on s at m k = ap (λ (n : ℕ). get_or s n 0) (add_assoc at m k)
+-- eight bytes put together, the first lowest
+module _ (s : List ℕ) (at : ℕ) (h : (k : ℕ) → get_or s k 0 < 256) where
+  abbrev together : ℕ
+  together =
+      get_or s at 0 + get_or s (at + 1) 0 * 256 + get_or s (at + 2) 0 * 65536 + get_or s (at + 3) 0 * 16777216
+      + get_or s (at + 4) 0 * 4294967296
+      + get_or s (at + 5) 0 * 1099511627776
+      + get_or s (at + 6) 0 * 281474976710656
+      + get_or s (at + 7) 0 * 72057594037927936
 
--- bytes put together
-pub two_bytes : (s : List ℕ) (at a b : ℕ) → a ≡ get_or s at 0 → a ≤ 255 → b ≡ get_or s (at + 1) 0 → b ≤ 255
-    → BytesAt s at 2 (a + b * 256)
-two_bytes s at a b e l f m = record { fits = omega arith; each = all }
-  where
-    all : (k : ℕ) → k < 2 → byte_of (a + b * 256) k ≡ get_or s (at + k) 0
-    all zero h = rw add-zero (omega arith)
-    all (suc zero) h = omega arith
-    all (suc (suc k)) h = absurd (omega arith)
-
-pub four_bytes : (s : List ℕ) (at a b : ℕ) → BytesAt s at 2 a → BytesAt s (at + 2) 2 b
-    → BytesAt s at 4 (a + b * 65536)
-four_bytes s at a b p q = record { fits = omega (arith, p.fits, q.fits); each = all }
-  where
-    all : (k : ℕ) → k < 4 → byte_of (a + b * 65536) k ≡ get_or s (at + k) 0
-    all zero h = omega (arith, p.fits, p.each 0 (lit< tt))
-    all (suc zero) h = omega (arith, p.fits, p.each 1 (lit< tt))
-    all (suc (suc zero)) h = omega (arith, p.fits, q.each 0 (lit< tt), on s at 2 0)
-    all (suc (suc (suc zero))) h = omega (arith, p.fits, q.each 1 (lit< tt), on s at 2 1)
-    all (suc (suc (suc (suc k)))) h = absurd (omega arith)
-
-pub eight-bytes : (s : List ℕ) (at a b : ℕ) → BytesAt s at 4 a → BytesAt s (at + 4) 4 b
-    → BytesAt s at 8 (a + b * 4294967296)
-eight-bytes s at a b p q = record { fits = omega (arith, p.fits, q.fits); each = all }
-  where
-    all : (k : ℕ) → k < 8 → byte_of (a + b * 4294967296) k ≡ get_or s (at + k) 0
-    all =
-        by_byte (λ k. byte_of (a + b * 4294967296) k ≡ get_or s (at + k) 0)
-        (omega (arith, p.fits, p.each 0 (lit< tt)))
-        (omega (arith, p.fits, p.each 1 (lit< tt)))
-        (omega (arith, p.fits, p.each 2 (lit< tt)))
-        (omega (arith, p.fits, p.each 3 (lit< tt)))
-        (omega (arith, p.fits, q.each 0 (lit< tt), on s at 4 0))
-        (omega (arith, p.fits, q.each 1 (lit< tt), on s at 4 1))
-        (omega (arith, p.fits, q.each 2 (lit< tt), on s at 4 2))
-        (omega (arith, p.fits, q.each 3 (lit< tt), on s at 4 3))
+  pub eight-bytes : BytesAt s at 8 together
+  eight-bytes =
+      split (get_or s at 0) (get_or s (at + 1) 0) (get_or s (at + 2) 0) (get_or s (at + 3) 0) (get_or s (at + 4) 0)
+      (get_or s (at + 5) 0) (get_or s (at + 6) 0) (get_or s (at + 7) 0)
+      (ap (λ (n : ℕ). get_or s n 0) (sym (add-zero at))) refl refl refl refl refl refl refl
+      (h at) (h (at + 1)) (h (at + 2)) (h (at + 3)) (h (at + 4)) (h (at + 5)) (h (at + 6)) (h (at + 7))
+    where
+      split : (a b c d e f g i : ℕ) → a ≡ get_or s (at + 0) 0 → b ≡ get_or s (at + 1) 0 → c ≡ get_or s (at + 2) 0
+          → d ≡ get_or s (at + 3) 0 → e ≡ get_or s (at + 4) 0 → f ≡ get_or s (at + 5) 0 → g ≡ get_or s (at + 6) 0
+          → i ≡ get_or s (at + 7) 0 → a < 256 → b < 256 → c < 256 → d < 256 → e < 256 → f < 256 → g < 256 → i < 256
+          → BytesAt s at 8
+          (a + b * 256 + c * 65536 + d * 16777216 + e * 4294967296 + f * 1099511627776 + g * 281474976710656
+          + i * 72057594037927936)
+      split a b c d e f g i pa pb pc pd pe pf pg pi la lb lc ld le lf lg li = record {
+        fits = omega (arith, la, lb, lc, ld, le, lf, lg, li);
+        each =
+            by_byte
+            (λ k.
+            byte_of
+            (a + b * 256 + c * 65536 + d * 16777216 + e * 4294967296 + f * 1099511627776 + g * 281474976710656
+            + i * 72057594037927936)
+            k
+            ≡ get_or s (at + k) 0)
+            (omega (arith, pa, la, lb, lc, ld, le, lf, lg, li)) (omega (arith, pb, la, lb, lc, ld, le, lf, lg, li))
+            (omega (arith, pc, la, lb, lc, ld, le, lf, lg, li)) (omega (arith, pd, la, lb, lc, ld, le, lf, lg, li))
+            (omega (arith, pe, la, lb, lc, ld, le, lf, lg, li)) (omega (arith, pf, la, lb, lc, ld, le, lf, lg, li))
+            (omega (arith, pg, la, lb, lc, ld, le, lf, lg, li)) (omega (arith, pi, la, lb, lc, ld, le, lf, lg, li));
+      }
 
 -- the first seven of eight bytes
 pub cut-byte : (u k : ℕ) → k < 7 → byte_of (u % 72057594037927936) k ≡ byte_of u k

@@ -3,14 +3,13 @@
 -- Assumes nothing.
 use Rattle.std.specs.Prelude.{ℕ, zero, suc, true, false, ◌==◌}
 use Rattle.text.specs.Word.{byte_of}
-use Rattle.text.specs.declared.feed.Feed.{Feed}
-use Rattle.text.specs.declared.feed.Feed.TheVariants.{First, None}
+use Rattle.std.specs.Prelude.{Option, Some, None}
 
 -- the place of the first line feed (10) among n bytes from the place k on, or none
-unfoldable pub feed_from : (byte : ℕ → ℕ) → (k n : ℕ) → Feed
+unfoldable pub feed_from : (byte : ℕ → ℕ) → (k n : ℕ) → Option ℕ
 feed_from byte k zero = None
-feed_from byte k (suc n) = elim (byte k == 10) [ true ↦ First k | false ↦ feed_from byte (suc k) n ]
+feed_from byte k (suc n) = elim (byte k == 10) [ true ↦ Some k | false ↦ feed_from byte (suc k) n ]
 
 -- .. among the eight bytes of a word, the first lowest
-abbrev pub first_feed : ℕ → Feed
+abbrev pub first_feed : ℕ → Option ℕ
 first_feed w = feed_from (byte_of w) 0 8

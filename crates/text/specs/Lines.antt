@@ -2,19 +2,19 @@
 -- form, in every text."
 -- Assumes nothing.
 use Rattle.std.specs.Prelude.{ℕ, ◌+◌, true, false, List, [], ◌∷◌, ◌++◌, length, drop, ◌==◌}
-use Rattle.std.proofs.Math.Option.{Option, none, some}
+use Rattle.std.specs.Prelude.{Option, None, Some}
 
 -- the lines of a text that begins with the byte b, from the lines of the text after it: b begins the first line
 abbrev pub beginning : ℕ → List (Option (List ℕ)) → List (Option (List ℕ))
-beginning b [] = none ∷ []
-beginning b (none ∷ ls) = none ∷ ls
-beginning b (some l ∷ ls) = some (b ∷ l) ∷ ls
+beginning b [] = None ∷ []
+beginning b (None ∷ ls) = None ∷ ls
+beginning b (Some l ∷ ls) = Some (b ∷ l) ∷ ls
 
 -- the lines of a text, each without the line feed (10) that ends it; bytes after the last line feed are one line more,
 -- `none`
 unfoldable pub lines_of : List ℕ → List (Option (List ℕ))
 lines_of [] = []
-lines_of (b ∷ s) = elim (b == 10) [ true ↦ some [] ∷ lines_of s | false ↦ beginning b (lines_of s) ]
+lines_of (b ∷ s) = elim (b == 10) [ true ↦ Some [] ∷ lines_of s | false ↦ beginning b (lines_of s) ]
 
 -- lines put together, each with its line feed
 abbrev pub joined : List (List ℕ) → List ℕ

@@ -1,44 +1,40 @@
-// Writing into a lent buffer. A writer stores only below the buffer's length and always answers the next place, so
-// that it measures on an empty part of the buffer and writes on the whole of it. One that asks for room stores
-// without a test.
+// Writing into a lent buffer, of bytes or of numbers. A writer stores only below the buffer's length and always answers
+// the next place, so that it measures on an empty part of the buffer and writes on the whole of it. One that asks for
+// room stores without a test. Buffer and place go side by side: a struct of both would make each contract say besides
+// that its field still holds the same reference.
 ghost use Rattle.std.specs.Prelude.{◌+◌, ◌^◌, ◌<◌, ◌≤◌, [], ◌∷◌, length};
 ghost use Rattle.text.specs.Buffer.{Put};
 
-// One byte.
-pub fn put(out: &mut [u8], at: usize, byte: u8) -> usize
+// One element.
+pub fn put<T: Copy>(out: &mut [T], at: usize, element: T) -> usize
     requires { at < 2 ^ 63 }
-    ensures { Put out.old at (byte ∷ []) out.new result }
+    ensures { Put out.old at (element ∷ []) out.new result }
 {
     if at < out.len() {
-        out[at] = byte;
+        out[at] = element;
     }
     at + 1
 }
 
-// Bytes, where there is room for them.
-pub fn put_within(out: &mut [u8], at: usize, bytes: &[u8]) -> usize
-    requires { at + length bytes.now ≤ length out.old }
-    ensures { Put out.old at bytes.now out.new result }
+// Some elements, where there is room for them.
+pub fn put_within<T: Copy>(out: &mut [T], at: usize, elements: &[T]) -> usize
+    requires { at + length elements.now ≤ length out.old }
+    ensures { Put out.old at elements.now out.new result }
 {
-    let mut i: usize = 0;
-    while i < bytes.len() {
-        out[at + i] = bytes[i];
-        i += 1;
+    for (i, element) in elements.iter().enumerate() {
+        out[at + i] = *element;
     }
-    at + i
+    at + elements.len()
 }
 
-// Bytes as far as there is room.
-pub fn put_bytes(out: &mut [u8], at: usize, bytes: &[u8]) -> usize
-    requires { at + length bytes.now < 2 ^ 63 }
-    ensures { Put out.old at bytes.now out.new result }
+// Some elements as far as there is room.
+pub fn put_all<T: Copy>(out: &mut [T], at: usize, elements: &[T]) -> usize
+    requires { at + length elements.now < 2 ^ 63 }
+    ensures { Put out.old at elements.now out.new result }
 {
     let mut next = at;
-    let mut i: usize = 0;
-    while i < bytes.len() {
-        let byte = bytes[i];
-        next = put(out, next, byte);
-        i += 1;
+    for element in elements {
+        next = put(out, next, *element);
     }
     next
 }

@@ -3,7 +3,6 @@ ghost use Rattle.std.specs.Prelude.{◌≡◌, ◌≤◌, length};
 ghost use Rattle.text.specs.Begin.{Stands};
 ghost use Rattle.text.specs.Lines.{place_of, line_end};
 
-use crate::feed::Feed;
 use crate::{feed, word};
 
 // Where a byte stands next, from a place on, or the end of the text, byte by byte.
@@ -11,14 +10,12 @@ pub fn place_of(s: &[u8], at: usize, byte: u8) -> usize
     requires { at ≤ length s.now }
     ensures { (result ≡ place_of byte s.now at) × (at ≤ result) × (result ≤ length s.now) }
 {
-    let mut i = at;
-    while i < s.len() {
+    for i in at..s.len() {
         if s[i] == byte {
             return i;
         }
-        i += 1;
     }
-    i
+    s.len()
 }
 
 // Where the line that begins at a place ends: at its line feed, or at the end of the text. Eight bytes are looked at
@@ -30,8 +27,8 @@ pub fn end(s: &[u8], at: usize) -> usize
     let mut from = at;
     while from + 7 < s.len() {
         match feed::first(word::at(s, from)) {
-            Feed::First(k) => return from + k,
-            Feed::None => from += 8,
+            Some(k) => return from + k,
+            None => from += 8,
         }
     }
     place_of(s, from, b'\n')

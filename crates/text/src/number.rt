@@ -5,13 +5,6 @@ ghost use Rattle.text.specs.Number.{digit_of, digits, digits_in, number_at, numb
 
 use crate::{buffer, word};
 
-// A number and the place after it, or no number.
-#[derive(Clone, Copy)]
-pub enum Number {
-    Value(u64, usize),
-    Nothing,
-}
-
 // The value of a digit's byte; 10 for any other byte.
 pub fn digit(byte: u8) -> u64
     ensures { result ≡ digit_of byte }
@@ -23,40 +16,38 @@ pub fn digit(byte: u8) -> u64
 }
 
 // The number whose first digits are a value and whose others stand from a place on, byte by byte.
-fn read_on(s: &[u8], first: u64, at: usize) -> Number
+fn read_on(s: &[u8], first: u64, at: usize) -> Option<(u64, usize)>
     requires { (first < 10 ^ 16) × (at ≤ length s.now) }
     ensures { result ≡ number_on s.now first at }
 {
     let mut value = first;
-    let mut i = at;
-    while i < s.len() {
+    for i in at..s.len() {
         let next = digit(s[i]);
         if 10 <= next {
-            return Number::Value(value, i);
+            return Some((value, i));
         }
         if value == 0 {
-            return Number::Nothing;
+            return None;
         }
         if 1000000000000000 <= value {
-            return Number::Nothing;
+            return None;
         }
         value = value * 10 + next;
-        i += 1;
     }
-    Number::Value(value, i)
+    Some((value, s.len()))
 }
 
-// The number of 1 to 16 digits at a place of a text, byte by byte: for numbers that mostly have few digits, and for
-// the last few bytes of a text.
-pub fn read_short(s: &[u8], at: usize) -> Number
+// The number of 1 to 16 digits at a place of a text and the place after it, byte by byte: for numbers that mostly have
+// few digits, and for the last few bytes of a text.
+pub fn read_short(s: &[u8], at: usize) -> Option<(u64, usize)>
     ensures { result ≡ number_at s.now at }
 {
     if s.len() <= at {
-        return Number::Nothing;
+        return None;
     }
     let value = digit(s[at]);
     if 10 <= value {
-        return Number::Nothing;
+        return None;
     }
     read_on(s, value, at + 1)
 }
@@ -78,7 +69,7 @@ fn ten_to(zeros: usize) -> u64
 }
 
 // The number whose first eight digits are a value and whose others stand from a place on.
-fn read_more(s: &[u8], value: u64, at: usize) -> Number
+fn read_more(s: &[u8], value: u64, at: usize) -> Option<(u64, usize)>
     requires { (0 < value) × (value < 10 ^ 8) × (at ≤ length s.now) }
     ensures { result ≡ number_on s.now value at }
 {
@@ -87,40 +78,40 @@ fn read_more(s: &[u8], value: u64, at: usize) -> Number
     }
     let next = digit(s[at]);
     if 10 <= next {
-        return Number::Value(value, at);
+        return Some((value, at));
     }
     let digits = word::digits_at(s, at);
     if digits.count == 8 {
         return read_on(s, value * 100000000 + word::eight(digits.word), at + 8);
     }
     let more = word::first(digits.word, digits.count);
-    Number::Value(value * ten_to(digits.count) + more, at + digits.count)
+    Some((value * ten_to(digits.count) + more, at + digits.count))
 }
 
 // The number of 1 to 16 digits at a place of a text, eight bytes at a time.
-pub fn read(s: &[u8], at: usize) -> Number
+pub fn read(s: &[u8], at: usize) -> Option<(u64, usize)>
     ensures { result ≡ number_at s.now at }
 {
     if s.len() <= at {
-        return Number::Nothing;
+        return None;
     }
     if s.len() - at < 8 {
         return read_short(s, at);
     }
     let digits = word::digits_at(s, at);
     if digits.count == 0 {
-        return Number::Nothing;
+        return None;
     }
     if digits.word % 256 == 0 {
         if digits.count == 1 {
-            return Number::Value(0, at + 1);
+            return Some((0, at + 1));
         }
-        return Number::Nothing;
+        return None;
     }
     if digits.count == 8 {
         return read_more(s, word::eight(digits.word), at + 8);
     }
-    Number::Value(word::first(digits.word, digits.count), at + digits.count)
+    Some((word::first(digits.word, digits.count), at + digits.count))
 }
 
 // How many digits a number of less than nine digits has.
@@ -175,10 +166,8 @@ pub fn sizes(numbers: &[u64]) -> usize
     ensures { (result ≡ digits_in numbers.now) × (result ≤ 20 * length numbers.now) }
 {
     let mut sum: usize = 0;
-    let mut i: usize = 0;
-    while i < numbers.len() {
-        sum += size(numbers[i]);
-        i += 1;
+    for number in numbers {
+        sum += size(*number);
     }
     sum
 }

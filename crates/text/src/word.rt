@@ -9,35 +9,21 @@ pub struct Digits {
     pub count: usize,
 }
 
-// A byte as a word.
-fn wide(byte: u8) -> u64
-    ensures { (result ≡ byte) × (result ≤ 255) }
-{
-    byte as u64
-}
-
-// Two bytes of a text.
-fn two(s: &[u8], place: usize) -> u64
-    requires { place + 2 ≤ length s.now }
-    ensures { BytesAt s.now place 2 result }
-{
-    wide(s[place]) + wide(s[place + 1]) * 256
-}
-
-// Four bytes of a text.
-fn four(s: &[u8], place: usize) -> u64
-    requires { place + 4 ≤ length s.now }
-    ensures { BytesAt s.now place 4 result }
-{
-    two(s, place) + two(s, place + 2) * 65536
-}
-
 // Eight bytes of a text. This compiles to one load.
 pub fn at(s: &[u8], place: usize) -> u64
     requires { place + 8 ≤ length s.now }
     ensures { BytesAt s.now place 8 result }
 {
-    four(s, place) + four(s, place + 4) * 4294967296
+    u64::from_le_bytes([
+        s[place],
+        s[place + 1],
+        s[place + 2],
+        s[place + 3],
+        s[place + 4],
+        s[place + 5],
+        s[place + 6],
+        s[place + 7],
+    ])
 }
 
 // Seven bytes of a text that has eight there.
@@ -76,7 +62,7 @@ pub fn byte_with(bit: u32) -> usize
 fn leading(t: u64) -> usize
     ensures { Leading t result }
 {
-    byte_with(u64::trailing_zeros(marks(t)))
+    byte_with(marks(t).trailing_zeros())
 }
 
 // The digits that a text has at a place, among its next eight bytes.

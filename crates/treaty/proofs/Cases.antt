@@ -59,15 +59,9 @@ module _ (limit taken c : ℕ) where
   unfolding cut_to_limit
   unlimited h = simp (eq-eqb _ _ h)
 
-  limited : (x : ℕ) → (limit ≡ 0 → ⊥) → x ≡ min c (limit - taken) → x ≡ cut_to_limit limit taken c
+  pub limited : (x : ℕ) → (limit ≡ 0 → ⊥) → x ≡ min c (limit - taken) → x ≡ cut_to_limit limit taken c
   unfolding cut_to_limit
   limited x h e = simp (ne_eqb _ _ h) e
 
   pub used-up : (limit ≡ 0 → ⊥) → limit ≤ taken → 0 ≡ cut_to_limit limit taken c
   used-up h k = limited 0 h (omega arith)
-
-  pub within-limit : (limit ≡ 0 → ⊥) → c ≤ limit - taken → c ≡ cut_to_limit limit taken c
-  within-limit h k = limited c h (omega arith)
-
-  pub above-limit : (limit ≡ 0 → ⊥) → limit - taken < c → limit - taken ≡ cut_to_limit limit taken c
-  above-limit h k = limited (limit - taken) h (omega arith)

@@ -5,6 +5,7 @@ ghost use Rattle.std.specs.Prelude.{◌≡◌};
 ghost use Rattle.treaty.specs.Treaty.{ceded_by_quota, ceded_by_surplus, ceded_of, cut_to_limit, cession_of};
 ghost use Rattle.treaty.specs.Ranges.{AmountInRange, Cedable};
 
+// Kinds are numbers, since the struct that C is lent holds one, and an unused place holds 0.
 pub const QUOTA_SHARE: u64 = 1;
 
 pub const SURPLUS: u64 = 2;
@@ -12,7 +13,7 @@ pub const SURPLUS: u64 = 2;
 // A treaty: its kind, its number in the table, the terms of both kinds (those of the other kind are 0) and
 // its event limit, the most ceded to it of one event. Capacity 0 and limit 0 mean none.
 #[repr(C)]
-#[derive(Clone, Copy)]
+#[derive(Clone, Copy, Default)]
 pub struct Treaty {
     pub kind: u64,
     pub number: u64,
@@ -40,6 +41,7 @@ pub struct Cession {
 }
 
 impl Treaty {
+    // That maximum and amount are in range stands in contracts: a caller may make any loss of them.
     fn by_quota(self, maximum: u64, amount: u64) -> u64
         requires { AmountInRange self maximum amount }
         ensures { result ≡ ceded_by_quota self.cede self.capacity maximum amount }
@@ -67,8 +69,7 @@ impl Treaty {
         requires { AmountInRange self maximum amount }
         ensures { result ≡ ceded_of self maximum amount }
     {
-        let kind = self.kind;
-        match kind {
+        match self.kind {
             QUOTA_SHARE => self.by_quota(maximum, amount),
             SURPLUS => self.by_surplus(maximum, amount),
             _ => 0,
@@ -86,7 +87,7 @@ impl Treaty {
             return 0;
         }
         let room = self.limit - taken;
-        if ceded <= room { ceded } else { room }
+        ceded.min(room)
     }
 
     // The cession of one loss, where `taken` is what the treaty took of earlier losses of the event.

@@ -2,7 +2,7 @@
 -- these 0."; document 02, Q-4: the year's timed premium "joins the standing"; When a call is turned down: opening a
 -- year, and refusal 8.
 -- Assumes nothing.
-use Rattle.std.specs.Prelude.{Bool, true, false, ◌&&◌, List, [], ◌∷◌, map, ℕ, eqb, leb, length, take, drop, get_or}
+use Rattle.std.specs.Prelude.{Bool, true, false, ◌&&◌, List, [], ◌∷◌, map, ℕ, eqb, leb, length, drop, get_or}
 use Rattle.lists.specs.Places.{in_places}
 use Rattle.lists.specs.Chains.{every}
 use Rattle.layer.specs.declared.terms.Terms.{Terms}
@@ -46,10 +46,6 @@ standing_of y d = record {
 abbrev pub layers_with : List Terms → (spent timed : List ℕ) → List Layer
 layers_with [] ms ns = []
 layers_with (t ∷ ts) ms ns = layer_of t (get_or ms 0 0) (get_or ns 0 0) ∷ layers_with ts (drop 1 ms) (drop 1 ns)
-
--- the same where a tier's numbers of a standing are in one list: eight spent amounts, then eight timed premiums
-abbrev pub layers_held : List Terms → (held : List ℕ) → List Layer
-layers_held ts hs = layers_with ts (take 8 hs) (drop 8 hs)
 
 -- a year from a standing on
 abbrev pub year_of : Contracts → Standing → Year

@@ -1,10 +1,13 @@
 // The year: standings and amounts. What a run, a ledger and a history are stands in the definitions.
 #![tactic(auto)]
 
+ghost use Rattle.std.specs.Prelude.{[], ◌≡◌};
+ghost use Rattle.year.specs.Statement.{added};
+
 use programme::contract::PLACES;
 
 // Each layer's spent amount, in eight places for each tier, the last day run, and each layer's timed premium, which is
-// 0 where its premium is not by time.
+// 0 where its premium is not by time. The lists stand side by side as in the struct of the header.
 #[repr(C)]
 #[derive(Clone, Copy)]
 pub struct Standing {
@@ -15,7 +18,8 @@ pub struct Standing {
     pub cat_timed: [u64; PLACES],
 }
 
-// What opening a year answers: refusal 0 and the fresh standing, or a refusal, its second number and the same.
+// What opening a year answers: refusal 0 and the fresh standing, or a refusal, its second number and the same. The
+// refusal is a number, as in the struct of the header.
 #[repr(C)]
 #[derive(Clone, Copy)]
 pub struct Opening {
@@ -25,7 +29,7 @@ pub struct Opening {
 }
 
 // What an event, or a whole run, comes to.
-#[derive(Clone, Copy)]
+#[derive(Clone, Copy, Default)]
 pub struct Amounts {
     pub gross: u64,
     pub ceded: u64,
@@ -33,4 +37,13 @@ pub struct Amounts {
     pub cat: u64,
     pub net: u64,
     pub premium: u64,
+}
+
+impl Amounts {
+    // What no events come to.
+    pub fn none() -> Amounts
+        ensures { result ≡ added [] }
+    {
+        Amounts::default()
+    }
 }

@@ -10,11 +10,5 @@ fits c =
     let s = c.args in
     omega (arith, mul-le-mul {n₁ = s.a} {m₁ = s.b} {n₂ = 2 ^ 48} {m₂ = 2 ^ 15 - 1} (omega arith) (omega arith))
 
-pub overflow_mul-result : goal.overflow_mul-result
-overflow_mul-result c = omega (arith, fits c)
-
-pub overflow_add-result : goal.overflow_add-result
-overflow_add-result c = omega (arith, fits c, c.requires.divisor)
-
 pub returns : goal.returns
 returns c = half-added (c.args.a * c.args.b) c.requires.positive

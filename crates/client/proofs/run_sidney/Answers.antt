@@ -3,8 +3,5 @@
 use Rattle.client.proofs.Computed as law
 use Rattle.client.proofs.run_sidney.Goals as goal
 
-pub open_sidney-opening-requires : goal.open_sidney-opening-requires
-open_sidney-opening-requires c = search law.programme-is
-
 pub returns : goal.returns
 returns c = (search law.run-after, search law.run-bytes)

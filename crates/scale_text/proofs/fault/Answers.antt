@@ -3,8 +3,8 @@
 use Rattle.scale_text.proofs.LinePass as law
 use Rattle.scale_text.proofs.fault.Goals as goal
 
-pub returns-else-number-day : goal.returns-else-number-day
-returns-else-number-day c = search law.other-day
+pub returns-then-number-day : goal.returns-then-number-day
+returns-then-number-day c = search law.other-day
 
 pub returns-then-share-gt-WHOLE : goal.returns-then-share-gt-WHOLE
 returns-then-share-gt-WHOLE c = search law.outside

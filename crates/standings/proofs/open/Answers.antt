@@ -7,4 +7,4 @@ pub returns-then-holds : goal.returns-then-holds
 returns-then-holds c = search opened
 
 pub returns : goal.returns
-returns c = search not_opened
+returns c = rw c.number.ensures (search not_opened)

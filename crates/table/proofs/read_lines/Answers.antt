@@ -1,87 +1,49 @@
 -- `table::read_lines` meets its contract.
 -- Assumes nothing.
-use borrow.Author.Rules.{rules}
+use Rattle.std.proofs.Common.{◌∙◌, refl, sym, arith}
+use Rattle.refusal.proofs.Numbers.{not_zero}
 use Rattle.table.proofs.LinePass as law
 use Rattle.table.proofs.read_lines.Goals as goal
 
-pub loop-at-init : goal.loop-at-init
-loop-at-init c = search law.going-begins
-
 pub returns-then-end-text : goal.returns-then-end-text
-returns-then-end-text c = search law.no-feed
+returns-then-end-text c =
+    rw c.at-then-end-text.ensures
+    (law.no-feed c.loop-at.invariant _ c.end-end.ensures.0 c.loop-at-test.true c.if-end-text.true
+    ∙ law.not_long _ c.if-text-gt-TABLE_BYTES.false)
 
 pub returns-in_default : goal.returns-in_default
-returns-in_default c = search law.no-form
+returns-in_default c =
+    rw c.at-in_default.ensures
+    (law.no-form c.loop-at.invariant _ c.end-end.ensures.0 c.loop-at-test.true c.if-end-text.false _ c.read.ensures
+    c.in_default.is ∙ law.not_long _ c.if-text-gt-TABLE_BYTES.false)
 
-pub fault-fault-requires : goal.fault-fault-requires
-fault-fault-requires c = search law.eight-at-most
+pub fault-requires : goal.fault-requires
+fault-requires c = search law.eight-at-most
 
-pub returns-then-fault-ne0 : goal.returns-then-fault-ne0
-returns-then-fault-ne0 c = search law.at-fault
+pub returns-in-Err : goal.returns-in-Err
+returns-in-Err c =
+    rw c.at-in-Err.ensures
+    (law.at-fault c.loop-at.invariant _ c.end-end.ensures.0 c.loop-at-test.true c.if-end-text.false _ c.read.ensures
+    _ c.in-Some.is _ (c.in-Err.ensures {u = tt}) (λ z. omega (arith, not_zero c.in-Err.refusal))
+    ∙ law.not_long _ c.if-text-gt-TABLE_BYTES.false)
 
-pub overflow_add-at : goal.overflow_add-at
-overflow_add-at c =
-    let begun = c in
-    let e = c.end-end.ensures in
-    let l = c.if-end-text.false in
-    search rules
+pub add-requires : goal.add-requires
+add-requires c =
+    law.has-room c.loop-at.invariant _ c.end-end.ensures.0 c.loop-at-test.true c.if-end-text.false _ c.read.ensures
+    _ c.in-Some.is _ (c.in_default-fault.ensures {u = tt}) refl
 
 pub after-before-requires : goal.after-before-requires
-after-before-requires c = (search law.eight-at-most, search law.without_fault)
-
-pub offset_bounds-treaties-k : goal.offset_bounds-treaties-k
-offset_bounds-treaties-k c =
-    let h = law.treaty_offset (law.entering c.loop-at.invariant c.end-end.ensures c.loop-at-test.true c.if-end-text.false c.read-read.ensures
-    c.in-Line.is c.fault-fault.ensures c.if-fault-ne0.false c.place-k.ensures c.after-before.ensures) _ c.in-Proportional.is in
-    search rules
-
-pub bounds-treaties-k : goal.bounds-treaties-k
-bounds-treaties-k c = law.treaty-place (law.entering c.loop-at.invariant c.end-end.ensures c.loop-at-test.true c.if-end-text.false c.read-read.ensures
-    c.in-Line.is c.fault-fault.ensures c.if-fault-ne0.false c.place-k.ensures c.after-before.ensures) _ c.in-Proportional.is
-
-pub loop-at-smaller-in-Proportional : goal.loop-at-smaller-in-Proportional
-loop-at-smaller-in-Proportional c = law.less_left (law.entering c.loop-at.invariant c.end-end.ensures c.loop-at-test.true c.if-end-text.false c.read-read.ensures
-    c.in-Line.is c.fault-fault.ensures c.if-fault-ne0.false c.place-k.ensures c.after-before.ensures)
-
-pub loop-at-preserved-in-Proportional : goal.loop-at-preserved-in-Proportional
-loop-at-preserved-in-Proportional c = law.treaty_enters (law.entering c.loop-at.invariant c.end-end.ensures c.loop-at-test.true c.if-end-text.false c.read-read.ensures
-    c.in-Line.is c.fault-fault.ensures c.if-fault-ne0.false c.place-k.ensures c.after-before.ensures) _ c.in-Proportional.is
-
-pub offset_bounds-risk-k : goal.offset_bounds-risk-k
-offset_bounds-risk-k c =
-    let h = law.risk_offset (law.entering c.loop-at.invariant c.end-end.ensures c.loop-at-test.true c.if-end-text.false c.read-read.ensures
-    c.in-Line.is c.fault-fault.ensures c.if-fault-ne0.false c.place-k.ensures c.after-before.ensures) c.in-Risk.is in
-    search rules
-
-pub bounds-risk-k : goal.bounds-risk-k
-bounds-risk-k c = law.risk-place (law.entering c.loop-at.invariant c.end-end.ensures c.loop-at-test.true c.if-end-text.false c.read-read.ensures
-    c.in-Line.is c.fault-fault.ensures c.if-fault-ne0.false c.place-k.ensures c.after-before.ensures) c.in-Risk.is
-
-pub loop-at-smaller-in-Risk : goal.loop-at-smaller-in-Risk
-loop-at-smaller-in-Risk c = law.less_left (law.entering c.loop-at.invariant c.end-end.ensures c.loop-at-test.true c.if-end-text.false c.read-read.ensures
-    c.in-Line.is c.fault-fault.ensures c.if-fault-ne0.false c.place-k.ensures c.after-before.ensures)
-
-pub loop-at-preserved-in-Risk : goal.loop-at-preserved-in-Risk
-loop-at-preserved-in-Risk c = law.risk_enters (law.entering c.loop-at.invariant c.end-end.ensures c.loop-at-test.true c.if-end-text.false c.read-read.ensures
-    c.in-Line.is c.fault-fault.ensures c.if-fault-ne0.false c.place-k.ensures c.after-before.ensures) c.in-Risk.is
-
-pub offset_bounds-cat-k : goal.offset_bounds-cat-k
-offset_bounds-cat-k c =
-    let h = law.cat_offset (law.entering c.loop-at.invariant c.end-end.ensures c.loop-at-test.true c.if-end-text.false c.read-read.ensures
-    c.in-Line.is c.fault-fault.ensures c.if-fault-ne0.false c.place-k.ensures c.after-before.ensures) c.in-Cat.is in
-    search rules
-
-pub bounds-cat-k : goal.bounds-cat-k
-bounds-cat-k c = law.cat-place (law.entering c.loop-at.invariant c.end-end.ensures c.loop-at-test.true c.if-end-text.false c.read-read.ensures
-    c.in-Line.is c.fault-fault.ensures c.if-fault-ne0.false c.place-k.ensures c.after-before.ensures) c.in-Cat.is
-
-pub loop-at-smaller : goal.loop-at-smaller
-loop-at-smaller c = law.less_left (law.entering c.loop-at.invariant c.end-end.ensures c.loop-at-test.true c.if-end-text.false c.read-read.ensures
-    c.in-Line.is c.fault-fault.ensures c.if-fault-ne0.false c.place-k.ensures c.after-before.ensures)
+after-before-requires c = (search law.eight-at-most, sym (c.in_default-fault.ensures {u = tt}))
 
 pub loop-at-preserved : goal.loop-at-preserved
-loop-at-preserved c = law.cat_enters (law.entering c.loop-at.invariant c.end-end.ensures c.loop-at-test.true c.if-end-text.false c.read-read.ensures
-    c.in-Line.is c.fault-fault.ensures c.if-fault-ne0.false c.place-k.ensures c.after-before.ensures) c.in-Cat.is
+loop-at-preserved c =
+    rw (c.add.ensures, c.after-before.ensures)
+    (law.enters c.loop-at.invariant _ c.end-end.ensures.0 c.loop-at-test.true c.if-end-text.false _ c.read.ensures
+    _ c.in-Some.is _ (c.in_default-fault.ensures {u = tt}) refl c.end-end.ensures.1 c.end-end.ensures.2)
 
 pub returns : goal.returns
-returns c = search law.all_read
+returns c =
+    law.all_read c.loop-at.invariant c.loop-at-test.false ∙ law.not_long _ c.if-text-gt-TABLE_BYTES.false
+
+pub returns-then-text-gt-TABLE_BYTES : goal.returns-then-text-gt-TABLE_BYTES
+returns-then-text-gt-TABLE_BYTES c = rw c.at.ensures (law.too_long _ c.if-text-gt-TABLE_BYTES.true)

@@ -1,10 +1,6 @@
 -- `test_figures::recoveries` keeps the layer sound from turn to turn.
-use Rattle.std.proofs.Common.{length, ◌-◌}
 use Rattle.layer.specs.Ranges.{Sound}
 use Rattle.test_figures.proofs.recoveries.Given as goal
 
-abbrev pub invariant-loop-i : goal.invariant-loop-i
-invariant-loop-i g l = Sound l.now
-
-abbrev pub decreases-loop-i : goal.decreases-loop-i
-decreases-loop-i g l = length l.subjects - l.i
+abbrev pub invariant-loop-subject : goal.invariant-loop-subject
+invariant-loop-subject g l = Sound l.now

@@ -5,4 +5,4 @@ use Rattle.scale.proofs.Table.{shares-fair}
 use Rattle.test_figures.proofs.share.Goals as goal
 
 pub returns : goal.returns
-returns c = rw (c.share_on.ensures, c.built_in-shares.ensures) (fair-on time_shares shares-fair _)
+returns c = rw (c.share_on.ensures, c.built_in.ensures) (fair-on time_shares shares-fair _)

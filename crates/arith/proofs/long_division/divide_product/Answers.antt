@@ -39,9 +39,6 @@ divide-n-requires c =
     let n = c.before.before in
     (n.new-by.ensures.1, omega (arith, high_lt n.before, c.before.high_word.ensures))
 
-pub nonzero_div-result : goal.nonzero_div-result
-nonzero_div-result c = pos c.before.before.before.before.before
-
 pub returns : goal.returns
 returns c =
     let k = c.before in

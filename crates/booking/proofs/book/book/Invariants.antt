@@ -7,9 +7,7 @@ use Rattle.booking.proofs.book.book.Given as goal
 
 abbrev pub invariant-loop-at : goal.invariant-loop-at
 invariant-loop-at l =
-    law.Booking l.shares l.register l.risk l.cat l.events l.day l.initial.risk_held l.initial.cat_held l.initial.out l.risk_held l.cat_held l.cessions l.out l.total
-    l.last l.next l.at
+    law.Booking l.basis l.events l.initial.standing l.initial.out l.standing l.cessions l.out l.total l.next l.at
 
 abbrev pub decreases-loop-at : goal.decreases-loop-at
-decreases-loop-at l =
-    length l.events - l.at
+decreases-loop-at l = length l.events - l.at

@@ -6,10 +6,12 @@ use Rattle.engine.proofs.run.write_measured.Goals as goal
 
 pub returns-then-buffer-needed : goal.returns-then-buffer-needed
 returns-then-buffer-needed c es q =
-    law.not_written _ _ _ _ _ _ (c.state-measured.ensures es q) (no_bytes c.state-measured.new.out c.args.buffer.now c.state-measured.auto.out)
-    c.if-buffer-needed.true _ c.refused.ensures
+    rw c.at.ensures
+    (law.not_written _ _ _ (c.state-needed.ensures es q)
+    (no_bytes c.state-needed.new.out c.args.buffer.now c.state-needed.auto.out) c.if-buffer-needed.true)
 
 pub returns : goal.returns
 returns c es q =
-    law.written _ _ _ _ _ _ (c.state-measured.ensures es q) (no_bytes c.state-measured.new.out c.args.buffer.now c.state-measured.auto.out)
-    c.if-buffer-needed.false (c.state.ensures es q) _ c.written.ensures
+    law.written _ _ _ (c.state-needed.ensures es q)
+    (no_bytes c.state-needed.new.out c.args.buffer.now c.state-needed.auto.out) c.if-buffer-needed.false
+    (c.state.ensures es q)

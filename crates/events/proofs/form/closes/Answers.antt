@@ -3,11 +3,8 @@
 use Rattle.events.proofs.LineEnds as law
 use Rattle.events.proofs.form.closes.Goals as goal
 
-pub returns-in-41 : goal.returns-in-41
-returns-in-41 c = search law.ends-by-feed
+pub returns-then-stands : goal.returns-then-stands
+returns-then-stands c = law.ends-by-both _ _ _ c.stands.ensures c.if-stands.true _ c.stands-then-stands.ensures
 
-pub returns-in_default : goal.returns-in_default
-returns-in_default c = search law.ends_not
-
-pub returns : goal.returns
-returns c = search law.ends-short
+pub returns-else-stands : goal.returns-else-stands
+returns-else-stands c = law.ends_not _ _ _ c.stands.ensures c.if-stands.false

@@ -9,8 +9,5 @@ returns-then-line-lt8 c = search law.head_short
 pub returns-then-seven-ne-EVENT : goal.returns-then-seven-ne-EVENT
 returns-then-seven-ne-EVENT c = search law.head_other
 
-pub returns-in_default : goal.returns-in_default
-returns-in_default c = search law.head_no_day
-
 pub returns : goal.returns
 returns c = search law.head_read

@@ -1,13 +1,18 @@
 -- `programme::range::treaty_outside` meets its contract.
 -- Assumes nothing.
-use Rattle.programme.proofs.Bounds as law
+use native.Mathlib.Omega.{arith}
+use Rattle.std.proofs.lemmas.Bool.Decides.{nat_tests}
+use Rattle.programme.specs.Ranges.{treaty_outside}
 use Rattle.programme.proofs.range.treaty_outside.Goals as goal
 
 pub returns-in-1 : goal.returns-in-1
-returns-in-1 c = search law.kind-quota
+unfolding treaty_outside
+returns-in-1 c = grind (arith, nat_tests)
 
 pub returns-in-2 : goal.returns-in-2
-returns-in-2 c = search law.kind-surplus
+unfolding treaty_outside
+returns-in-2 c = grind (arith, nat_tests)
 
 pub returns-in_default : goal.returns-in_default
-returns-in_default c = search law.kind-neither
+unfolding treaty_outside
+returns-in_default c = grind (arith, nat_tests)

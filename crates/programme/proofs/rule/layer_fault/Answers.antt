@@ -1,19 +1,22 @@
 -- `programme::rule::layer_fault` meets its contract.
 -- Assumes nothing.
-use Rattle.programme.proofs.Faults as law
+use native.Mathlib.Omega.{arith}
+use Rattle.std.proofs.lemmas.Bool.Decides.{nat_tests}
+use Rattle.programme.specs.Rules.{layer_fault}
 use Rattle.programme.proofs.rule.layer_fault.Goals as goal
 
 pub returns-then-terms_outside-gt0 : goal.returns-then-terms_outside-gt0
-returns-then-terms_outside-gt0 c = search law.layer_3
+unfolding layer_fault
+returns-then-terms_outside-gt0 c = grind (arith, nat_tests)
 
 pub returns-then-later-gt0 : goal.returns-then-later-gt0
-returns-then-later-gt0 c = search law.layer-order
-
-pub returns-then-before-ge-PLACES : goal.returns-then-before-ge-PLACES
-returns-then-before-ge-PLACES c = search law.layer_ninth
+unfolding layer_fault
+returns-then-later-gt0 c = grind (arith, nat_tests)
 
 pub returns-then-l-before : goal.returns-then-l-before
-returns-then-l-before c = search law.layer_5
+unfolding layer_fault
+returns-then-l-before c = grind (arith, nat_tests)
 
 pub returns : goal.returns
-returns c = search law.layer-fine
+unfolding layer_fault
+returns c = grind (arith, nat_tests)

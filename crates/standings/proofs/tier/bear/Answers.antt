@@ -1,41 +1,38 @@
 -- `standings::tier::bear` meets its contract.
 -- Assumes nothing.
-use mathlib.Core.Path.{refl}
-use borrow.Author.Rules.{rules}
 use Rattle.layer.proofs.TierPass.{none_ample}
 use Rattle.standings.proofs.LentTiers as law
 use Rattle.standings.proofs.tier.bear.Goals as goal
 
-pub exhausted-from-requires : goal.exhausted-from-requires
-exhausted-from-requires c =
-    (search law.reached_inside, search law.reached_few, search rules, search law.bears_sound)
+pub exhausted-from-requires-clause-ranges : goal.exhausted-from-requires-clause-ranges
+exhausted-from-requires-clause-ranges c = search law.reached_ranges
 
-pub returns-then-from-end : goal.returns-then-from-end
-returns-then-from-end c = (search law.nothing-borne, search law.places_same)
+pub returns-then-from-end-clause-sums : goal.returns-then-from-end-clause-sums
+returns-then-from-end-clause-sums c = search law.nothing-borne
 
-pub overflow_sub-count : goal.overflow_sub-count
-overflow_sub-count c = search law.exhausted_inside
+pub returns-then-from-end-clause-spent : goal.returns-then-from-end-clause-spent
+returns-then-from-end-clause-spent c = search law.spent_same
 
-pub records-requires : goal.records-requires
-records-requires c = (search law.moved-places, search law.moved_inside, search rules)
+pub returns-then-from-end-clause-timed : goal.returns-then-from-end-clause-timed
+returns-then-from-end-clause-timed c = search law.timed_same
 
-pub bear_first-borne-requires : goal.bear_first-borne-requires
-bear_first-borne-requires c = (search law.moved-few, search law.records_sound, search none_ample)
+pub bear_all-sums-requires : goal.bear_all-sums-requires
+bear_all-sums-requires c = (search law.records_sound, search none_ample)
 
-pub store-requires : goal.store-requires
-store-requires c =
-    (c.requires.0.places, search law.moved-places)
+pub returns-clause-sums : goal.returns-clause-sums
+returns-clause-sums c =
+    law.sums-borne c.requires.lent _ c.requires.share c.args.subjects.now _ _ c.largest.ensures c.reached-end.ensures.reached
+    c.reached-end.ensures.within _ c.exhausted-from.ensures.exhausted c.exhausted-from.ensures.within _
+    c.records-layers.ensures _ c.none-none.ensures _ c.bear_all-sums.ensures.sums
 
-pub returns : goal.returns
-returns c =
-    let reach = c.reached-end.ensures in
-    let most = c.largest.ensures in
-    let xs = c.args.subjects.now in
-    let loaded = c.records.ensures in
-    let borne = c.bear_first-borne.ensures in (
-      law.sums-borne c.requires.0 _ c.requires.1 xs _ _ most reach _ c.exhausted-from.ensures _ loaded _ refl
-          c.none.ensures c.none-2.ensures _ borne.1,
-      law.places-borne c.requires.0 _ c.requires.1 xs _ _ most reach _ c.exhausted-from.ensures _ loaded _
-          borne.0 _
-          c.store.ensures,
-    )
+pub returns-clause-spent : goal.returns-clause-spent
+returns-clause-spent c =
+    law.spent_stored c.requires.lent _ c.requires.share c.args.subjects.now _ _ c.largest.ensures c.reached-end.ensures.reached
+    c.reached-end.ensures.within _ c.exhausted-from.ensures.exhausted c.exhausted-from.ensures.within _
+    c.records-layers.ensures _ c.none-none.ensures _ c.bear_all-sums.ensures.layers _ _ c.store.ensures.spent
+
+pub returns-clause-timed : goal.returns-clause-timed
+returns-clause-timed c =
+    law.timed_stored c.requires.lent _ c.requires.share c.args.subjects.now _ _ c.largest.ensures c.reached-end.ensures.reached
+    c.reached-end.ensures.within _ c.exhausted-from.ensures.exhausted c.exhausted-from.ensures.within _
+    c.records-layers.ensures _ c.none-none.ensures _ c.bear_all-sums.ensures.layers _ _ c.store.ensures.timed

@@ -8,4 +8,4 @@ pub returns-then-out-eq0 : goal.returns-then-out-eq0
 returns-then-out-eq0 c = (search law.idle-measured, search rules)
 
 pub returns : goal.returns
-returns c = (search rules, search law.idle-short)
+returns c = let put = rw c.none.ensures at c.put_event.ensures.0 in (put, search law.idle-short)

@@ -1,21 +1,15 @@
 -- `statement::lines::put_layers` meets its contract.
 -- Assumes nothing.
-use borrow.Author.Rules.{rules}
-use Rattle.text.proofs.Passes.{none_passed, passed_length}
 use Rattle.statement.proofs.LinePasses as law
 use Rattle.statement.proofs.lines.put_layers.Goals as goal
 
-pub loop-i-init : goal.loop-i-init
-loop-i-init c = none_passed _ _ _ _ _ _ (search rules)
-
 pub put_layer-next-requires : goal.put_layer-next-requires
-put_layer-next-requires c = (search law.layers-small, search rules, search law.layer-sound)
+put_layer-next-requires c = (
+  law.layers-small _ _ _ _ _ _ c.loop-i.invariant c.requires.0 c.requires.1,
+  law.layer-sound _ _ _ _ _ _ c.loop-i.invariant c.loop-i-test.true _ _ c.of_standing-layer.ensures c.requires.4,
+)
 
 pub loop-i-preserved : goal.loop-i-preserved
-loop-i-preserved c = search law.layer-put
-
-pub shape_of-out : goal.shape_of-out
-shape_of-out c = search passed_length
-
-pub returns : goal.returns
-returns c = (search law.layers-put, search law.layers-short)
+loop-i-preserved c =
+    law.layer-put _ _ _ _ _ _ c.loop-i.invariant c.loop-i-test.true _ _ c.of_standing-layer.ensures
+    c.put_layer-next.ensures.0 c.put_layer-next.ensures.1

@@ -1,30 +1,23 @@
 -- `statement::lines::put_treaties` meets its contract.
 -- Assumes nothing.
-use borrow.Author.Rules.{rules}
-use Rattle.text.proofs.Passes.{passed_length}
 use Rattle.statement.proofs.LinePasses as law
 use Rattle.statement.proofs.lines.put_treaties.Goals as goal
+use Rattle.statement.proofs.lines.put_treaties.Goals.{then-number-ne0, else-number-ne0}
 
-pub loop-place-init : goal.loop-place-init
-loop-place-init c = search law.no-treaties-put
-
-pub offset_bounds-cessions-number : goal.offset_bounds-cessions-number
-offset_bounds-cessions-number c = search (law.number-inside, rules)
-
-pub bounds-cessions-number : goal.bounds-cessions-number
-bounds-cessions-number c = search (law.number-inside, rules)
-
-pub put_line-next-requires : goal.put_line-next-requires
-put_line-next-requires c = (search law.treaties-small, search rules)
-
-pub loop-place-preserved-then-number-ne0 : goal.loop-place-preserved-then-number-ne0
-loop-place-preserved-then-number-ne0 c = search law.treaty-put
-
-pub loop-place-preserved : goal.loop-place-preserved
-loop-place-preserved c = search law.treaty_absent
-
-pub shape_of-out : goal.shape_of-out
-shape_of-out c = search passed_length
+pub loop-treaty-preserved : goal.loop-treaty-preserved
+loop-treaty-preserved c =
+    elim c.if-number-ne0.branch [
+      | then-number-ne0 w ↦
+          rw (w.out-is, w.next-is)
+          (law.treaty-put _ c.requires.1 _ _ _ c.loop-treaty.invariant c.loop-treaty-test.true w.if-number-ne0.true
+          w.put_line-next.ensures.0 w.put_line-next.ensures.1)
+      | else-number-ne0 w ↦
+          rw (w.out-is, w.next-is)
+          (law.treaty_absent _ c.requires.1 _ _ _ c.loop-treaty.invariant c.loop-treaty-test.true w.if-number-ne0.false)
+    ]
 
 pub returns : goal.returns
-returns c = (search law.treaties-put, search law.treaties-short)
+returns c = (
+  law.treaties-put _ c.requires.1 _ _ _ c.loop-treaty.invariant c.loop-treaty-test.false,
+  law.treaties-short _ c.requires.1 _ _ _ c.loop-treaty.invariant,
+)

@@ -5,9 +5,8 @@ use Rattle.statement.proofs.Pieced as law
 use Rattle.statement.proofs.print.put_last.Goals as goal
 
 pub returns : goal.returns
-returns c =
-    let a = c.args in (
-      law.last-amounts a.row.now a.from c.put_field-cat.ensures.0 c.put_field-net.ensures.0
-          c.put_field-premium.ensures.0 c.put_within.ensures,
-      search rules,
-    )
+returns c = (
+  law.last-amounts c.args.amounts c.put_field-cat.ensures.0 c.put_field-net.ensures.0
+      c.put_field-premium.ensures.0 c.put_within.ensures,
+  search rules,
+)

@@ -1,11 +1,7 @@
 -- `table::form::rates` meets its contract.
 -- Assumes nothing.
-use Prim.Native.Nat.{◌-◌}
 use Rattle.table.proofs.RatePass as law
 use Rattle.table.proofs.form.rates.Given as goal
 
 abbrev pub invariant-loop-i : goal.invariant-loop-i
-invariant-loop-i l = law.Rating l.line l.at l.count l.values l.next l.i
-
-abbrev pub decreases-loop-i : goal.decreases-loop-i
-decreases-loop-i l = l.count - l.i
+invariant-loop-i l = law.Rating l.line l.at l.count l.values l.end l.i

@@ -1,6 +1,6 @@
 -- `table::print::put_terms` meets its contract.
 -- Assumes nothing.
-use borrow.Author.Rules.{rules}
+use Rattle.std.proofs.Common.{arith, rules}
 use Rattle.text.specs.Template.{capital, holes}
 use Rattle.table.proofs.Tables as law
 use Rattle.table.proofs.print.put_terms.Goals as goal
@@ -10,9 +10,8 @@ unfolding capital holes
 put-third-requires c = search rules
 
 pub returns : goal.returns
-returns c =
-    let long = c.well_formed.1.1.1.0.1.1.1.1.1.1.1.1.0.1.0.1 in (
-      law.terms-put _ c.args.l c.requires.1 c.requires.3 long c.put-first.ensures.0
-          c.put_rates-second.ensures.0 c.put-third.ensures.0 c.put_tail.ensures.0,
-      search rules,
-    )
+returns c = (
+  law.terms-put _ c.args.l.now c.requires.1 c.requires.3 (omega arith) c.put-first.ensures.0
+      c.put_rates-second.ensures.0 c.put-third.ensures.0 c.put_tail.ensures.0,
+  search rules,
+)

@@ -5,14 +5,11 @@ use Rattle.text.proofs.Feeds as law
 use Rattle.text.proofs.FirstFeed as feed
 use Rattle.text.proofs.line.end.Goals as goal
 
-pub loop-from-init : goal.loop-from-init
-loop-from-init c = search law.none_sought
-
 pub overflow_add-result : goal.overflow_add-result
 overflow_add-result c = search feed.end_fits
 
-pub returns-in-First : goal.returns-in-First
-returns-in-First c = (search feed.line-ends, search rules, search feed.end-within)
+pub returns-in-Some : goal.returns-in-Some
+returns-in-Some c = (search feed.line-ends, search rules, search feed.end-within)
 
 pub loop-from-preserved : goal.loop-from-preserved
 loop-from-preserved c = search feed.line_goes_on

@@ -1,11 +1,8 @@
 -- `text::line::place_of` meets its contract.
 -- Assumes nothing.
-use Rattle.std.proofs.Common.{rules}
+use Rattle.std.proofs.Common.{rules, ◌≡◌, length, sym, ◌∙◌, arith}
 use Rattle.text.proofs.Feeds as law
 use Rattle.text.proofs.line.place_of.Goals as goal
-
-pub loop-i-init : goal.loop-i-init
-loop-i-init c = search law.none_sought
 
 pub returns-then-s-i : goal.returns-then-s-i
 returns-then-s-i c = (search law.here, search rules, search rules)
@@ -14,4 +11,6 @@ pub loop-i-preserved : goal.loop-i-preserved
 loop-i-preserved c = search law.later
 
 pub returns : goal.returns
-returns c = (search law.nowhere, search rules, search rules)
+returns c =
+    let e : c.loop-i.i ≡ length c.args.s.now = omega (arith, c.loop-i.invariant.within) in
+    (sym e ∙ search law.nowhere, search rules, search rules)

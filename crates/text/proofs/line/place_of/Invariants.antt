@@ -1,11 +1,7 @@
 -- `text::line::place_of` meets its contract.
 -- Assumes nothing.
-use Rattle.std.proofs.Common.{◌-◌, length}
 use Rattle.text.proofs.Feeds as law
 use Rattle.text.proofs.line.place_of.Given as goal
 
 abbrev pub invariant-loop-i : goal.invariant-loop-i
 invariant-loop-i l = law.Seeking l.byte l.s l.at l.i
-
-abbrev pub decreases-loop-i : goal.decreases-loop-i
-decreases-loop-i l = length l.s - l.i

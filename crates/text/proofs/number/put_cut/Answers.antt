@@ -4,9 +4,6 @@ use Rattle.std.proofs.Common.{rules}
 use Rattle.text.proofs.Backwards as law
 use Rattle.text.proofs.number.put_cut.Goals as goal
 
-pub loop-v-init : goal.loop-v-init
-loop-v-init c = search law.none-back
-
 pub overflow_sub-i : goal.overflow_sub-i
 overflow_sub-i c = search law.one_inside
 

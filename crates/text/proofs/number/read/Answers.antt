@@ -17,9 +17,6 @@ returns-then-digits-eq1 c = search run.zero-alone
 pub returns-then-digits-eq0-2 : goal.returns-then-digits-eq0-2
 returns-then-digits-eq0-2 c = search run.zero_leads
 
-pub eight-requires : goal.eight-requires
-eight-requires c = search run.all-eight
-
 pub read_more-requires : goal.read_more-requires
 read_more-requires c = (search run.value_pos, search rules, search rules)
 

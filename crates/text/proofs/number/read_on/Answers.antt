@@ -1,11 +1,8 @@
 -- `text::number::read_on` meets its contract.
 -- Assumes nothing.
-use Rattle.std.proofs.Common.{refl, rules}
+use Rattle.std.proofs.Common.{refl, rules, ◌≡◌, length, arith}
 use Rattle.text.proofs.Digits as law
 use Rattle.text.proofs.number.read_on.Goals as goal
-
-pub loop-i-init : goal.loop-i-init
-loop-i-init c = (search rules, search rules, refl)
 
 pub returns-then-next-ge10 : goal.returns-then-next-ge10
 returns-then-next-ge10 c = search (law.found-on, law.read-other)
@@ -20,4 +17,6 @@ pub loop-i-preserved : goal.loop-i-preserved
 loop-i-preserved c = (search rules, search rules, search law.read-digit)
 
 pub returns : goal.returns
-returns c = search (law.found-on, law.read-end)
+returns c =
+    let e : c.loop-i.i ≡ length c.args.s.now = omega (arith, c.loop-i.invariant.0) in
+    rw (← e) (search (law.found-on, law.read-end))

@@ -5,8 +5,5 @@ use lib.Bits.{and_le_r}
 use Rattle.text.proofs.Marks.{marked-bytes}
 use Rattle.text.proofs.word.marks.Goals as goal
 
-pub overflow_add-result : goal.overflow_add-result
-overflow_add-result c = omega (arith, and_le_r c.args.t 9187201950435737471)
-
 pub returns : goal.returns
 returns c = marked-bytes c.args.t

@@ -2,7 +2,6 @@
 -- Assumes nothing.
 use Rattle.std.proofs.Common.{rules}
 use borrow.Author.Tests.{le-leb, lt-leb}
-use Rattle.treaty.proofs.Bounds.{quota-product, quota-wide}
 use Rattle.treaty.proofs.Cases.{quota_without_capacity, quota-within, quota-above}
 use Rattle.treaty.proofs.Treaty.by_quota.Goals as goal
 use Rattle.treaty.proofs.Treaty.by_quota.Goals.{then-self-eq0-via-then-self-eq0, then-self-eq0-via-else-self-eq0+then-maximum-self}
@@ -15,12 +14,6 @@ returns-then-self-eq0 c =
       | then-self-eq0-via-else-self-eq0+then-maximum-self w ↦
           quota-within _ _ _ _ _ w.if-self-eq0.false (le-leb _ _ w.if-maximum-self.true) r
     ]
-
-pub overflow_mul-self : goal.overflow_mul-self
-overflow_mul-self c = search quota-product
-
-pub mul_div-requires : goal.mul_div-requires
-mul_div-requires c = search quota-wide
 
 pub returns : goal.returns
 returns c = search (quota-above, lt-leb, rules)

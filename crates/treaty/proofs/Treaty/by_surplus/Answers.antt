@@ -1,14 +1,10 @@
 -- `treaty::Treaty::by_surplus` meets its contract.
 -- Assumes nothing.
-use Rattle.treaty.proofs.Bounds.{surplus-product}
 use Rattle.treaty.proofs.Cases.{surplus-retained, surplus-above, surplus-between}
 use Rattle.treaty.proofs.Treaty.by_surplus.Goals as goal
 
 pub returns-then-maximum-self : goal.returns-then-maximum-self
 returns-then-maximum-self c = search surplus-retained
-
-pub overflow_mul-self : goal.overflow_mul-self
-overflow_mul-self c = search surplus-product
 
 pub returns-then-self-maximum : goal.returns-then-self-maximum
 returns-then-self-maximum c = search surplus-above

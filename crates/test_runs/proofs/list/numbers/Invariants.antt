@@ -1,9 +1,0 @@
--- `test_runs::list::numbers` fills one place a turn.
-use Rattle.std.proofs.Common.{◌-◌, ◌≤◌}
-use Rattle.test_runs.proofs.list.numbers.Given as goal
-
-abbrev pub invariant-loop-k : goal.invariant-loop-k
-invariant-loop-k l = l.k ≤ 33
-
-abbrev pub decreases-loop-k : goal.decreases-loop-k
-decreases-loop-k l = 33 - l.k

@@ -1,9 +1,0 @@
--- `test_tables::show::treaty_places` looks at one place a turn.
-use Rattle.std.proofs.Common.{◌-◌, ◌≤◌}
-use Rattle.test_tables.proofs.show.treaty_places.Given as goal
-
-abbrev pub invariant-loop-i : goal.invariant-loop-i
-invariant-loop-i g l = l.i ≤ 8
-
-abbrev pub decreases-loop-i : goal.decreases-loop-i
-decreases-loop-i g l = 8 - l.i
