@@ -62,6 +62,20 @@ module _ (shares : List ℕ) (p : Programme) (s : Standing) where
             by (valid p) (standing_passes (contracts_in p) s) _ (λ z. omega (arith, not_zero f, a ∙ z))
             ∙ ap (λ (k : ℕ). refused k 0) (sym a)
 
+    -- the same by the fault's number: each that is not 0 is a refusal's
+    pub number-at-fault : (n : ℕ) → n ≡ lent_fault p s → (n ≡ 0 → ⊥)
+        → (f : Refusal) × (number_of f ≡ n)
+        × RanAs (run_under shares p s text (length d)) s s d d (Err (record { refusal = f; number = 0 }))
+    number-at-fault n a h =
+        let named = by (valid p) (standing_passes (contracts_in p) s) (λ z. h (a ∙ z)) in
+        (named.0, named.1 ∙ sym a, at-fault named.0 named.1)
+      where
+        by : (v w : Bool) → (◌≡◌ {A = ℕ} (cond v (cond w 0 8) 6) 0 → ⊥)
+            → (f : Refusal) × (number_of f ≡ cond v (cond w 0 8) 6)
+        by true true h = absurd (h refl)
+        by true false h = (the.NotAStanding, refl)
+        by false w h = (the.NotAProgramme, refl)
+
     -- then 28
     pub no-scale : 0 ≡ lent_fault p s → scale_passes shares ≡ false
         → RanAs (run_under shares p s text (length d)) s s d d (Err (record { refusal = the.NotAScale; number = 0 }))

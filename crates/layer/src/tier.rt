@@ -1,7 +1,7 @@
 // The layers of one tier: each looks at the same subject amounts, and none sees another's remainder. They are lent as
 // a list of records, each brought up to date in its place.
 ghost use Rattle.std.specs.Prelude.{◌≡◌, ◌≤◌, take};
-ghost use Rattle.layer.specs.Tier.{layers_through, sums_through, tier_after};
+ghost use Rattle.layer.specs.Tier.{layers_through, sums_through, layers_of, tier_after};
 ghost use Rattle.layer.specs.Ranges.{SoundLayers, AmpleForTier};
 
 use crate::record::{Layer, Sums};
@@ -39,20 +39,26 @@ pub fn bear_all(layers: &mut [Layer], subjects: &[u64], mut sums: Sums) -> Sums
     sums
 }
 
-// The same for the tier of eight places by value, of which the first `count` are lent here; the others stay.
+impl Tier {
+    // The same for a tier: its layers, in the first places, are lent; the other places stay.
+    pub fn bear(&mut self, subjects: &[u64], sums: Sums) -> Sums
+        requires { (self.old.count ≤ 8) × SoundLayers (layers_of self.old) × AmpleForTier sums }
+        ensures sums { result ≡ sums_through subjects.now sums (layers_of self.old) }
+        ensures tier { self.new ≡ tier_after sums.share subjects.now self.old }
+    {
+        let count = self.count;
+        bear_all(&mut self.layers[..count], subjects, sums)
+    }
+}
+
+// The same for the tier of eight places by value, of which the first `count` are its layers.
 pub fn bear_first(layers: [Layer; PLACES], count: usize, subjects: &[u64], sums: Sums) -> TierBorne
     requires { (count ≤ 8) × SoundLayers (take count layers) × AmpleForTier sums }
     ensures { (result.tier
         ≡ tier_after sums.share subjects.now (record { layers = layers; count = count }))
         × (result.sums ≡ sums_through subjects.now sums (take count layers)) }
 {
-    let mut lent = layers;
-    let after = bear_all(&mut lent[..count], subjects, sums);
-    TierBorne {
-        tier: Tier {
-            layers: lent,
-            count,
-        },
-        sums: after,
-    }
+    let mut tier = Tier { layers, count };
+    let after = tier.bear(subjects, sums);
+    TierBorne { tier, sums: after }
 }

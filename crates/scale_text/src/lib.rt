@@ -1,7 +1,7 @@
 // Reading a client's own time scale.
 #![tactic(auto)]
 
-ghost use Rattle.std.specs.Prelude.{◌≡◌};
+ghost use Rattle.std.specs.Prelude.{Ok, Err, ◌≡◌, replicate, MatchResult};
 ghost use Rattle.refusal.specs.Refusal.{refusal_number};
 ghost use Rattle.scale_text.specs.Read.{reading_of, day_fault, read_of};
 
@@ -62,12 +62,14 @@ fn fault(day: u64, before: u64, number: u64, share: u64) -> Result<(), Refusal>
     Ok(())
 }
 
-// The shares of a text's lines, or the first line at fault. Bytes after the 366th line are 28 of line 367, whatever
-// they are.
-fn read_days(text: &[u8]) -> Result<[u64; DAYS], Refused>
-    ensures { reading_of result ≡ read_of text.now }
+// Puts the shares of a text's lines in place of zeros, or tells the first line at fault; those of the lines before it
+// stay there. The shares are lent, since a `Result` that holds them is copied with them. Bytes after the 366th line are
+// 28 of line 367, whatever they are.
+fn read_days(text: &[u8], shares: &mut [u64; DAYS]) -> Result<(), Refused>
+    requires { shares.old ≡ replicate 366 0 }
+    ensures { MatchResult result (λ _. reading_of (Ok shares.new) ≡ read_of text.now)
+        (λ f. reading_of (Err f) ≡ read_of text.now) }
 {
-    let mut shares = [0u64; DAYS];
     let mut before = WHOLE;
     let mut at = 0;
     for k in 0..DAYS {
@@ -93,12 +95,20 @@ fn read_days(text: &[u8]) -> Result<[u64; DAYS], Refused>
     if at < text.len() {
         return Err(Refusal::NotAScale.at(367));
     }
-    Ok(shares)
+    Ok(())
 }
 
-// Reads a scale text.
+// Reads a scale text. The answer's shares are filled in their place; a refusal takes the place of the whole answer.
 pub fn read(text: &[u8]) -> ScaleReading
     ensures { result ≡ read_of text.now }
 {
-    read_days(text).into()
+    let mut reading = ScaleReading {
+        refusal: 0,
+        line: 0,
+        scale: Scale { shares: [0; DAYS] },
+    };
+    if let Err(refused) = read_days(text, &mut reading.scale.shares) {
+        reading = ScaleReading::from(Err(refused));
+    }
+    reading
 }

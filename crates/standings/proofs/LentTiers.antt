@@ -8,7 +8,7 @@ use native.Mathlib.Omega.{arith}
 use borrow.Author.Tests.{eqb-true}
 use lib.Dec.{eqb}
 use lib.ListN.{length, take, drop, replicate, length-map, length-drop, take-append-drop}
-use lib.Seq.{length-take-le, take_at, slice_empty, drop-drop}
+use lib.Seq.{length-take-le, slice_empty, drop-drop}
 use borrow.Rule.Slice.PartMut.{put_mid}
 use Rattle.std.specs.List.{between}
 use Rattle.std.proofs.lemmas.List.{length-take}
@@ -21,9 +21,11 @@ use Rattle.lists.proofs.Each.{each-drop, each_take, each-chained}
 use Rattle.layer.specs.declared.terms.Terms.{Terms}
 use Rattle.layer.specs.declared.record.Layer.{Layer}
 use Rattle.layer.specs.declared.record.Sums.{Sums}
+use Rattle.layer.specs.declared.tier.Tier.{Tier}
 use Rattle.layer.specs.Layer.{sums_of}
-use Rattle.layer.specs.Tier.{layers_through, recoveries_through, dues_through, sums_through}
+use Rattle.layer.specs.Tier.{layers_through, recoveries_through, dues_through, sums_through, tier_after}
 use Rattle.layer.specs.Ranges.{InRange, Sound, Rising, SoundLayers}
+use Rattle.layer.proofs.Tiers.{layers-through}
 use Rattle.layer.proofs.Through.{on_each, layers-each, recoveries-each, dues-each}
 use Rattle.layer.proofs.Still.{Still, still_full, layers-between, recoveries-between, dues-between}
 use Rattle.programme.specs.Rules.{band_end}
@@ -194,6 +196,9 @@ module _ {ts : List Terms} {ms ns : List ℕ} (b : CanBear ts ms ns) (share : �
         sym (dues-between share fair xs front (between f n ls) (drop n ls) front-sound front-still rest-sound rest-still)
         ∙ ap (dues_through share xs) apart
 
+    pub moved-few : n - f ≤ 8
+    moved-few = omega (arith, inside, b.few)
+
     moved_length : length (between f n ls) ≡ n - f
     moved_length =
         omega (arith, length-take (n - f) (drop f ls), length-drop f ls, with_length ts ms ns, inside, few)
@@ -249,12 +254,17 @@ module _ {ts : List Terms} {ms ns : List ℕ} (b : CanBear ts ms ns) (share : �
           ∙ ap (λ (u : Sums). sums_through xs u (take (n - f) rs)) e
           ∙ (λ j. sums_of share (recovered j) (premium j))
 
-      -- the layers after the amounts, stored over those that were lent
-      module _ (s : Sums) (e : s ≡ sums_of share 0 0) (gone : List Layer)
-          (borne : gone ≡ layers_through s.share xs (take (n - f) rs)) where
+      -- the layers of the tier after the amounts, stored over those that were lent
+      module _ (s : Sums) (e : s ≡ sums_of share 0 0) (t : Tier)
+          (borne : t ≡ tier_after s.share xs (record { layers = rs; count = n - f })) where
+        abbrev gone : List Layer
+        gone = take (n - f) t.layers
+
         moved : gone ≡ layers_through share xs (between f n ls)
         moved =
-            borne ∙ ap (λ (u : Sums). layers_through u.share xs (take (n - f) rs)) e ∙ ap (layers_through share xs) first
+            ap (λ (u : Tier). take (n - f) u.layers) borne
+            ∙ layers-through s.share xs (record { layers = rs; count = n - f })
+            ∙ ap (λ (u : Sums). layers_through u.share xs (take (n - f) rs)) e ∙ ap (layers_through share xs) first
 
         after-length : length gone ≡ length (between f n ls)
         after-length =
@@ -272,21 +282,18 @@ module _ {ts : List Terms} {ms ns : List ℕ} (b : CanBear ts ms ns) (share : �
             ∙ ap (λ (l : List Layer). in_places 0 (map of (front ++ (l ++ drop n ls)))) moved
             ∙ ap (λ (l : List Layer). in_places 0 (map of l)) layers-moved
 
-        stored : (of : Layer → ℕ) (ks : List ℕ) → ks ≡ in_places 0 (map of ls) → (others : List Layer) (js : List ℕ)
-            → js ≡ map of (take (n - f) (gone ++ others))
+        stored : (of : Layer → ℕ) (ks : List ℕ) → ks ≡ in_places 0 (map of ls) → (js : List ℕ) → js ≡ map of gone
             → put_mid f (n - f) ks js ≡ in_places 0 (map of (layers_through share xs ls))
-        stored of ks r others js q =
+        stored of ks r js own =
             let until : f + (n - f) ≡ n = omega (arith, few) in
-            let own : js ≡ map of gone =
-            q ∙ ap (map of) (take_at gone others (n - f) (omega (arith, after-length, moved_length))) in
             (λ j. take f (r j) ++ (own j ++ drop-drop (n - f) f (r j) j))
             ∙ ap (λ (k : ℕ). take f (in_places 0 (map of ls)) ++ (map of gone ++ drop k (in_places 0 (map of ls)))) until
             ∙ over of
 
-        pub spent_stored : (others : List Layer) (js : List ℕ) → js ≡ spent_of (take (n - f) (gone ++ others))
+        pub spent_stored : (js : List ℕ) → js ≡ spent_of gone
             → put_mid f (n - f) ms js ≡ in_places 0 (spent_of (layers_through share xs ls))
         spent_stored = stored (λ (y : Layer). y.spent.0) ms (spent-lent b)
 
-        pub timed_stored : (others : List Layer) (js : List ℕ) → js ≡ timed_of (take (n - f) (gone ++ others))
+        pub timed_stored : (js : List ℕ) → js ≡ timed_of gone
             → put_mid f (n - f) ns js ≡ in_places 0 (timed_of (layers_through share xs ls))
         timed_stored = stored (λ (y : Layer). y.timed.0) ns (timed-lent b)

@@ -13,7 +13,7 @@ ghost use Rattle.standings.specs.Tier.{reached_by, exhausted_of, largest_of, Can
 
 use layer::record::{Layer, Sums};
 use layer::terms::Terms;
-use layer::tier;
+use layer::tier::Tier;
 use programme::contract;
 use programme::contract::PLACES;
 
@@ -107,10 +107,13 @@ pub fn bear(
         return none;
     }
     let count = end - from;
-    let mut layers = records(&terms[from..end], &spent[from..end], &timed[from..end]);
-    let sums = tier::bear_all(&mut layers[..count], subjects, none);
+    let mut moved = Tier {
+        layers: records(&terms[from..end], &spent[from..end], &timed[from..end]),
+        count,
+    };
+    let sums = moved.bear(subjects, none);
     store(
-        &layers[..count],
+        &moved.layers[..count],
         &mut spent[from..end],
         &mut timed[from..end],
     );

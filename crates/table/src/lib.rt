@@ -1,8 +1,9 @@
 // Reading and writing a treaty table.
 #![tactic(auto)]
 
-ghost use Rattle.std.specs.Prelude.{◌≡◌, length};
+ghost use Rattle.std.specs.Prelude.{Ok, Err, ◌≡◌, length, MatchResult};
 ghost use Rattle.answer.specs.Outcome.{answer_of, answered, buffer_after};
+ghost use Rattle.programme.specs.Contract.{no_contracts, programme_of};
 ghost use Rattle.table_text.specs.Read.{reading_of, read_of};
 ghost use Rattle.table_text.specs.Write.{write_of};
 
@@ -20,15 +21,17 @@ pub mod print;
 // The longest table text that is read, in bytes.
 pub const TABLE_BYTES: usize = 8192;
 
-// The programme of a text, or the first line at fault. Line by line from place to place: a line's end is looked for
-// eight bytes at a time, which the library's `split` does not do.
-fn read_lines(text: &[u8]) -> Result<Programme, Refused>
-    ensures { reading_of result ≡ read_of text.now }
+// Puts the contracts of a text's lines into a programme without contracts, or tells the first line at fault; those of
+// the lines before it stay there. The programme is lent, since a `Result` that holds one is copied with it. Line by
+// line from place to place: a line's end is looked for eight bytes at a time, which the library's `split` does not do.
+fn read_lines(text: &[u8], programme: &mut Programme) -> Result<(), Refused>
+    requires { programme.old ≡ programme_of no_contracts }
+    ensures { MatchResult result (λ _. reading_of (Ok programme.new) ≡ read_of text.now)
+        (λ f. reading_of (Err f) ≡ read_of text.now) }
 {
     if TABLE_BYTES < text.len() {
         return Err(Refusal::TableTooLong.at(0));
     }
-    let mut programme = Programme::empty();
     let mut before = Before::first();
     let mut number: u64 = 0;
     let mut at = 0;
@@ -48,14 +51,22 @@ fn read_lines(text: &[u8]) -> Result<Programme, Refused>
         before = before.after(&contract);
         at = end + 1;
     }
-    Ok(programme)
+    Ok(())
 }
 
-// Reads a table text.
+// Reads a table text. The answer's programme is filled in its place; a refusal takes the place of the whole answer.
 pub fn read(text: &[u8]) -> Reading
     ensures { result ≡ read_of text.now }
 {
-    read_lines(text).into()
+    let mut reading = Reading {
+        refusal: 0,
+        line: 0,
+        programme: Programme::empty(),
+    };
+    if let Err(refused) = read_lines(text, &mut reading.programme) {
+        reading = Reading::from(Err(refused));
+    }
+    reading
 }
 
 // Writes a valid programme's table text and tells its length.

@@ -12,7 +12,11 @@ use year::Standing;
 
 // How many bytes are not as lent, those past the buffer included.
 fn changed(bytes: &[u8]) -> usize {
-    bytes.iter().filter(|byte| **byte != b'#').count()
+    let mut count: usize = 0;
+    for byte in bytes {
+        count += usize::from(*byte != b'#');
+    }
+    count
 }
 
 // Shows as many bytes as a success says that it wrote.
@@ -58,13 +62,18 @@ fn lent_bytes() -> [u8; 65537]
     [b'#'; 65537]
 }
 
-// The first 65,537 bytes of a text that is repeated without end; of an empty one, zeros.
+// The first 65,537 bytes of a text that is repeated without end; of an empty one, zeros. No part is longer than the
+// text, and the smaller of both says so where the text is cut.
 fn repeated(text: &[u8]) -> [u8; 65537]
     ensures { 65537 ≡ length result }
 {
     let mut long = [0u8; 65537];
-    for (place, byte) in long.iter_mut().zip(text.iter().cycle()) {
-        *place = *byte;
+    if text.is_empty() {
+        return long;
+    }
+    for part in long.chunks_mut(text.len()) {
+        let size = part.len().min(text.len());
+        part[..size].copy_from_slice(&text[..size]);
     }
     long
 }
